@@ -9,7 +9,7 @@ cd "$(dirname "$0")"
 
 prepare() {
   # Each library, and by which folder of the registry it is known.
-  local libraries="anyhow cargo_metadata=cargo-metadata clap indicatif notify proc-macro2 serde serde_json=serde-json syn tempfile
+  local libraries="anyhow cargo_metadata=cargo-metadata clap indicatif notify proc-macro2 serde serde_json=serde-json syn tempfile toml
     libc petgraph os_str_bytes=os-str-bytes"
   local registry=/usr/share/cargo/registry missing=() it try
   for it in $libraries; do

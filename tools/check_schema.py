@@ -25,7 +25,7 @@ LONGEST, DEEPEST, MOST_CRATES = 16_777_216, 127, 10_000
 # what each command is answered where it is carried out, in $defs/reply/$defs
 ANSWERS = {
     "crates": "done", "set file": "done", "remove file": "done", "set block": "done", "remove block": "done",
-    "set expansion": "done", "remove expansion": "done",
+    "set expansion": "done", "remove expansion": "done", "set crate": "done",
     "refresh": "places", "resolve": "answer", "diagnostics": "diagnostics", "trait items": "items", "impl items": "items", "dump": "dump",
     "names": "names", "modules": "places", "status": "status", "tree": "page",
 }
@@ -194,11 +194,13 @@ def file_rule(value, _begun):
     """A file text climbs past the root, or has no segment left, behind `..` that are nested."""
     if not isinstance(value, dict):
         return None
-    files, crates = [], value.get("crates")
+    files, crates, to = [], value.get("crates"), value.get("to")
     if value.get("do") in ("set file", "remove file", "tree"):
         files = [("file", value.get("file"))]
     elif value.get("do") == "crates" and isinstance(crates, list):
         files = [(f"crates[{n}].root", crate.get("root")) for n, crate in enumerate(crates) if isinstance(crate, dict)]
+    elif value.get("do") == "set crate" and isinstance(to, dict):
+        files = [("to.root", to.get("root"))]
     for field, text in files:
         if isinstance(text, str) and not folds(text):
             return f"{field}: {short(text)} climbs past the root, or has no segment left"

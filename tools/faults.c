@@ -4,6 +4,9 @@
 //   REFUSE_ONE_IN=n        each request is refused with a chance of one in n
 //   REFUSE_SEED=s          from which the chances are drawn
 //   REFUSE_MOST=k          and no more than k are refused
+//   REFUSE_AFTER=k         the first k requests are left out of this
+//   AGAIN=k                a read of standard input, which has to be a file, gives no more than a line, and a line whose reply is
+//                          `memory` is read again, up to k times
 //   READ_SIZE=k            a read of standard input gives k bytes at most
 //   READ_FAILS=n           the n-th read fails
 //   WRITE_SIZE=k           a write to standard output takes k bytes at most
@@ -15,6 +18,7 @@
 #include <stdint.h>
 #include <stdio.h>
 #include <stdlib.h>
+#include <string.h>
 #include <sys/types.h>
 #include <sys/syscall.h>
 #include <unistd.h>
@@ -23,9 +27,14 @@ extern void *__libc_malloc(size_t size);
 extern void *__libc_realloc(void *old, size_t size);
 
 static int ready;
-static long at, count, one_in, most, read_size, read_fails, write_size, write_room, write_fails, report;
+static long at, count, one_in, most, after, again, read_size, read_fails, write_size, write_room, write_fails, report;
 static long requests, refused, reads;
 static uint64_t drawn;
+
+static const char memory[] = "{\"error\":\"memory\"}";
+// where the line begins and how far it is read; how often it was read again; how much of its reply is that of `memory`, -1 where it
+// is another one
+static long line_start, line_read, tries, same;
 
 static long number(const char *name, long otherwise) {
   const char *text = getenv(name);
@@ -39,6 +48,8 @@ static void begin(void) {
   count = number("REFUSE_COUNT", 1);
   one_in = number("REFUSE_ONE_IN", 0);
   most = number("REFUSE_MOST", -1);
+  after = number("REFUSE_AFTER", 0);
+  again = number("AGAIN", 0);
   drawn = (uint64_t)number("REFUSE_SEED", 0) * 0x9e3779b97f4a7c15u + 1;
   read_size = number("READ_SIZE", 0);
   read_fails = number("READ_FAILS", 0);
@@ -52,7 +63,7 @@ static int is_refused(void) {
   begin();
   requests++;
   int no = at > 0 && requests >= at && requests < at + count;
-  if (one_in > 0 && (most < 0 || refused < most)) {
+  if (one_in > 0 && requests > after && (most < 0 || refused < most)) {
     drawn ^= drawn << 13;
     drawn ^= drawn >> 7;
     drawn ^= drawn << 17;
@@ -60,6 +71,33 @@ static int is_refused(void) {
   }
   refused += no;
   return no;
+}
+
+// The rest of a line, or a part of it.
+static ssize_t read_line(void *into, size_t size) {
+  ssize_t length = pread(0, into, size, line_read);
+  if (length <= 0) return length;
+  char *end = memchr(into, '\n', (size_t)length);
+  if (end) length = end - (char *)into + 1;
+  line_read += length;
+  return length;
+}
+
+static void was_written(const char *text, size_t size) {
+  for (size_t k = 0; k < size; k++) {
+    if (text[k] != '\n') {
+      same = same >= 0 && same < (long)sizeof memory - 1 && memory[same] == text[k] ? same + 1 : -1;
+      continue;
+    }
+    if (same == (long)sizeof memory - 1 && tries < again) {
+      tries++;
+      line_read = line_start;
+    } else {
+      tries = 0;
+      line_start = line_read;
+    }
+    same = 0;
+  }
 }
 
 void *malloc(size_t size) {
@@ -87,6 +125,7 @@ ssize_t read(int file, void *into, size_t size) {
       return -1;
     }
     if (read_size > 0 && size > (size_t)read_size) size = (size_t)read_size;
+    if (again > 0) return read_line(into, size);
   }
   return syscall(SYS_read, file, into, size);
 }
@@ -105,7 +144,9 @@ ssize_t write(int file, const void *from, size_t size) {
       write_room -= (long)size;
     }
   }
-  return syscall(SYS_write, file, from, size);
+  ssize_t taken = syscall(SYS_write, file, from, size);
+  if (file == 1 && again > 0 && taken > 0) was_written(from, (size_t)taken);
+  return taken;
 }
 
 __attribute__((destructor)) static void end(void) {

@@ -101,6 +101,39 @@ def blocks_edited_one_by_one(n):
     yield REFRESH, {"ok": []}
 
 
+def by_nesting(place):
+    """The order in which blocks are resolved: by how many are around one, and then by place, step by step, names before blocks."""
+    steps = [(1, *it["block"]) if isinstance(it, dict) else (0, it.encode()) for it in place[1:]]
+    return sum(step[0] for step in steps), place[0], steps
+
+
+def many_blocks(n):
+    """n blocks in a hundred modules, every tenth in the one before it, and then 16 in one another; a block in the last of these is
+    refused, and changes nothing."""
+    yield crates(), OK
+    yield set_file("lib.rs", *(node("Module", k, f"m{k}", nodes=[]) for k in range(100))), OK
+    places = []
+    for k in range(n):
+        places.append((places[-1] if k % 10 == 9 else [0, f"m{k // 10 % 100}"]) + [block(k)])
+        yield set_block(places[-1], node("Struct", 1, "S")), OK
+    yield REFRESH, {"ok": [[0], *sorted(places, key=by_nesting)]}
+    for place in places:
+        yield resolve("S", *place), is_bound(item("Struct", 1, place), vis={"explicit": False, "module": {"crate": 0, "in": [place], "kind": "BlockExpr"}})
+    inner = [[0, *(block(k) for k in range(depth))] for depth in range(1, 18)]
+    for place in inner[:16]:
+        yield set_block(place, node("Struct", 1, "S")), OK
+    yield set_block(inner[16], node("Struct", 1, "S")), too_large("blocks")
+    yield {"do": "remove block", "at": inner[16]}, too_large("blocks")
+    yield REFRESH, {"ok": inner[:16]}
+    yield status(*inner[15]), CURRENT
+    yield status(*inner[16]), UNKNOWN
+    yield set_block(inner[16], node("Struct", 1, "S")), too_large("blocks")
+    yield REFRESH, {"ok": []}
+    yield set_file("lib.rs", *(node("Module", k, f"m{k}", nodes=[]) for k in range(1, 100))), OK
+    yield REFRESH, {"ok": [[0], *sorted((it for it in places + inner[:16] if it[1] != "m0"), key=by_nesting)]}
+    yield status(*places[0]), UNKNOWN
+
+
 def globs_of_a_ring_in_blocks(n):
     """n modules that each glob the next, the last the first, with a block in each that globs the next."""
     yield crates(), OK
@@ -126,26 +159,118 @@ def call_at(number, *around):
 
 
 def lists_of_nested_expansions(n, is_one=False):
-    """A trait with a call whose expansion holds a function and the next call, to the limit of recursion n and past it."""
+    """A trait and an impl, each with a call whose expansion holds a function and the next call, to the limit of recursion n and past it."""
     yield crates(**({} if n == 128 else limit_of(n))), OK
     makes = node("MacroRules", 1, "foo", text="A")
-    yield set_file("lib.rs", makes, node("Trait", 2, "T", items=[node("MacroCall", 3, path="foo", input="0")])), OK
+    trait = node("Trait", 2, "T", items=[node("MacroCall", 3, path="foo", input="0")])
+    yield set_file("lib.rs", makes, trait, node("Impl", 4, trait=False, items=[node("MacroCall", 5, path="foo", input="0")])), OK
     for k in range(1 if is_one else n + 10):
         yield expansion("A", str(k), node("Fn", 1, f"f{k}", body=""), node("MacroCall", 2, path="foo", input="0" if is_one else str(k + 1))), OK
     yield REFRESH, {"ok": [[0]]}
-    around = [3] + [2] * n
-    calls = [call_at(around[k], *around[:k]) for k in range(n)]
-    items = []
-    for k in range(n):
-        where = call_at(1, *around[: k + 1])["in"]
-        items.append({"def": {"id": [1, 0], "in": where, "kind": "Fn"}, "name": "f0" if is_one else f"f{k}"})
-    yield {"do": "trait items", "at": [0], "path": "T"}, {"ok": {"calls": calls, "diagnostics": [], "items": items}}
+    for first, ask in (3, {"do": "trait items", "at": [0], "path": "T"}), (5, {"do": "impl items", "at": [0], "impl": 0}):
+        around = [first] + [2] * n
+        calls = [call_at(around[k], *around[:k]) for k in range(n)]
+        items = []
+        for k in range(n):
+            where = call_at(1, *around[: k + 1])["in"]
+            items.append({"def": {"id": [1, 0], "in": where, "kind": "Fn"}, "name": "f0" if is_one else f"f{k}"})
+        yield ask, {"ok": {"calls": calls, "diagnostics": [], "items": items}}
     yield diagnostics(), {"ok": []}
 
 
 def list_that_names_itself(n):
     """The same with one expansion, whose call names itself."""
     return lists_of_nested_expansions(n, True)
+
+
+def modules_by_each_macro(n):
+    """n modules in one another, with a call, a derive and an attribute of a macro of each kind in the innermost. Each expansion
+    holds a module with a struct in it and a module whose file is there: below 32 modules neither has items."""
+    def named(kind, number, name, **fields):
+        return node(kind, number, name, text=name, vis="pub", **fields)
+
+    declarative = [named("MacroRules", 1, "r"), *(named("MacroDef", 2 + k, style[0], styles=[style]) for k, style in enumerate(["bang", "attr", "derive"]))]
+    expanders = ["builtin", "builtin_eager", "builtin_attr", "builtin_derive", "unimplemented"]
+    builtin = [named("MacroDef", 5 + k, f"m{k}", expander=expander) for k, expander in enumerate(expanders)]
+    ways = [("r", "bang"), ("b", "bang"), ("m0", "bang"), ("m1", "bang"), ("m4", "bang"), ("a", ["attr", 0]), ("m4", ["attr", 0]), ("d", "derive"), ("m4", "derive")]
+    inner, entries = [], []
+    for k, (macro, way) in enumerate(ways):
+        path = macro if macro == "r" else "crate::" + macro
+        if way == "bang":
+            inner.append(node("MacroCall", 100 + k, path=path, input="k"))
+        else:
+            attribute = {"path": "derive", "paths": [path]} if way == "derive" else {"path": path}
+            inner.append(node("Struct", 100 + k, f"S{k}", input="k", attrs=[attribute]))
+        held = node("Module", 1, f"in{k}", nodes=[node("Struct", 1, "S")])
+        entries.append(expansion(macro, "k", held, node("Module", 2, f"f{k}"), call=way))
+    inner.append(node("Struct", 200, "T", attrs=[{"path": "crate::m2"}]))
+    inner.append(node("Struct", 201, "U", attrs=[{"path": "derive", "paths": ["crate::m3"]}]))
+    for k in reversed(range(n)):
+        inner = [node("Module", k, "m", nodes=inner)]
+    yield crates(), OK
+    yield set_file("lib.rs", *declarative, *builtin, *inner), OK
+    files = ["m/" * n + f"f{k}" for k in range(len(ways))]
+    for file, entry in zip(files, entries):
+        yield set_file(file + ".rs", node("Struct", 1, "S")), OK
+        yield entry, OK
+    yield REFRESH, {"ok": [[0]]}
+    place, last = [0] + ["m"] * n, {**item("Module", n - 1, "lib.rs")} if n else ROOT
+    own, told = {"explicit": False, "module": last}, []
+    for k, (macro, way) in enumerate(ways):
+        call = {"id": [100 + k, 0], "kind": "MacroCall" if way == "bang" else "Struct"}
+        call.update({"attr": 0} if way != "bang" else {}, **({"derive": 0} if way == "derive" else {}))
+        held, filed = item("Module", 1, "lib.rs", call), item("Module", 2, "lib.rs", call)
+        yield resolve(f"in{k}", *place), is_bound(held, vis=own, kinds=("types",))
+        yield resolve(f"f{k}", *place), is_bound(filed, vis=own, kinds=("types",))
+        yield resolve("S", *place, f"in{k}"), is_bound(item("Struct", 1, "lib.rs", call), vis={"explicit": False, "module": held}) if n < 32 else NOTHING
+        yield resolve("S", *place, f"f{k}"), is_bound(item("Struct", 1, files[k] + ".rs"), vis={"explicit": False, "module": filed}) if n < 32 else NOTHING
+        if way != "bang":
+            # an attribute's item is replaced, a derive's isn't
+            yield resolve(f"S{k}", *place), is_bound(item("Struct", 100 + k, "lib.rs"), vis=own) if way == "derive" else NOTHING
+        lost = {key: it for key, it in filed.items() if key != "crate"}
+        told.append({"candidates": [files[k] + ".rs", files[k] + "/mod.rs"], "item": lost, "kind": "unresolved module", "module": last})
+    for k, name in ((200, "T"), (201, "U")):
+        yield resolve(name, *place), is_bound(item("Struct", k, "lib.rs"), vis=own)
+    unimplemented = {"item": {"id": [9, 0], "in": ["lib.rs"], "kind": "MacroDef"}, "kind": "unimplemented builtin macro", "module": ROOT}
+    yield diagnostics(), {"ok": [unimplemented, *(told if n == 32 else [])]}
+
+
+def each_depth_of_modules(n):
+    for depth in (n - 1, n):
+        yield from modules_by_each_macro(depth)
+        yield None, None
+
+
+def ring_of_macro_use(n):
+    """n files, each the module of the one before it, with `macro_use`, and the last with the first. Each defines a macro before its
+    module, and behind it calls the one that the module has given back. The 33rd module's file isn't taken."""
+    def ring(k):
+        after = (k + 1) % n
+        module = node("Module", 1, "m", vis="pub", attrs=[{"path": "macro_use"}, {"path": "path", "literal": f"f{after}.rs"}])
+        return node("MacroRules", 1, f"a{k}", text=f"A{k}"), module, node("MacroCall", 1, path=f"a{after}", input="")
+
+    yield crates({"root": "f0.rs"}), OK
+    for k in range(n):
+        yield set_file(f"f{k}.rs", *ring(k)), OK
+        yield expansion(f"A{k}", "", node("Struct", 1, f"S{k}", vis="pub")), OK
+    yield REFRESH, {"ok": [[0]]}
+    # where the ring is shorter, the module that isn't taken has had its macro from the one before
+    deepest = 32 if n < 34 else 31
+    for depth in range(33):
+        after, where = (depth + 1) % n, [f"f{depth % n}.rs", {"id": [1, 0], "kind": "MacroCall"}]
+        yield resolve("m::" * depth + f"S{after}"), is_bound(item("Struct", 1, *where), vis="pub") if depth <= deepest else NOTHING
+    file = [f"f{32 % n}.rs"]
+    last = {"crate": 0, "id": [1, 0], "in": [f"f{31 % n}.rs"], "kind": "Module"}
+    told = [{"candidates": [f"f{33 % n}.rs"], "item": {"id": [1, 0], "in": file, "kind": "Module"}, "kind": "unresolved module", "module": last}]
+    if deepest < 32:
+        told.append({"call": {"id": [1, 0], "in": file, "kind": "MacroCall"}, "kind": "unresolved macro call", "module": last, "path": "a33"})
+    yield diagnostics(), {"ok": told}
+
+
+def rings_of_macro_use(n):
+    for length in (1, 7, 33, 34, n):
+        yield from ring_of_macro_use(length)
+        yield None, None
 
 
 def expansion_that_names_itself(n):
@@ -209,6 +334,46 @@ def attributes_of_one_item(n):
     yield diagnostics(), {"ok": told}
 
 
+def attributes_that_bring_their_item_back(n, limit=None):
+    """An item under n attributes of one macro, each of whose expansions is the item with one attribute less."""
+    limit = n if limit is None else limit
+    struct = lambda k: node("Struct", 1, "S", input=str(k), attrs=[{"path": "a"}] * (n - k))
+    yield crates(**limit_of(limit)), OK
+    yield set_file("lib.rs", node("MacroDef", 1, "a", text="A", styles=["attr"]), struct(0)), OK
+    for k in range(n):
+        yield expansion("A", str(k), struct(k + 1), call=["attr", 0]), OK
+    yield REFRESH, {"ok": [[0]]}
+    calls = [{"attr": 0, "id": [1, 0], "kind": "Struct"}] * n
+    yield resolve("S"), is_bound(item("Struct", 1, "lib.rs", *calls)) if n <= limit else NOTHING
+    yield diagnostics(), {"ok": []}
+
+
+def attributes_to_the_limit(n):
+    for limit in (n, n - 1):
+        yield from attributes_that_bring_their_item_back(n, limit)
+        yield None, None
+
+
+# ---- use trees
+
+def paths_of_nested_lists(n):
+    """A use tree of 24 lists in one another, of n segments each, around a path of n: they join to one of 25 n segments. And lists of
+    `super` in one another, to the level at which they don't join any more."""
+    def tree(prefix, leaf, count=24):
+        return nested(count, leaf, lambda it: {"path": prefix, "list": [it]})
+
+    inner = [node("Use", 1, vis="pub", tree={"single": "super::m"}), node("Struct", 1, "S", vis="pub")]
+    lists = tree("m" + "::m" * (n - 1), {"single": "m::" * (n - 1) + "S"})
+    supers = lambda count: tree("super" + "::super" * (count - 1), {"single": "super::x"}, 1)
+    yield crates(), OK
+    yield set_file("lib.rs", node("Module", 1, "m", nodes=inner), node("Use", 2, tree=lists), node("Use", 3, tree=supers(254)), node("Use", 4, tree=supers(255))), OK
+    yield REFRESH, {"ok": [[0]]}
+    yield resolve("S"), is_bound(item("Struct", 1, "lib.rs"), {"id": [2, 0], "in": ["lib.rs"], "kind": "import", "place": 24})
+    # 255 levels and one more are no path, so no import
+    told = {"item": {"id": [3, 0], "in": ["lib.rs"], "kind": "Use"}, "kind": "unresolved import", "module": ROOT, "place": 1}
+    yield diagnostics(), {"ok": [told]}
+
+
 # ---- crates
 
 def chain_of_crates(n):
@@ -228,7 +393,7 @@ def chain_of_crates(n):
     struct, by = item("Struct", 1, "a.rs"), lambda file: {"id": [1, 0], "in": [file], "kind": "import", "place": 0}
     yield resolve("S", n - 1), is_bound(struct, by("c.rs"), "pub")
     yield resolve("::p::S", n - 1), is_bound(struct, by("b.rs"), "pub")
-    yield resolve("q::" * 63 + "S", n - 1), is_bound(struct, by("b.rs"), "pub")
+    yield resolve("q::" * 63 + "S", n - 1), NOTHING if n < 64 else is_bound(struct, by("b.rs") if n > 64 else None, "pub")
     yield resolve("q::" * 64 + "S", n - 1), too_large("path")
     yield resolve("$0::S", n - 1), is_bound(struct, None, "pub")
     yield resolve(f"${n // 2}::S", n - 1), is_bound(struct, by("b.rs"), "pub")
@@ -254,11 +419,28 @@ def files_by_parents(n):
     yield set_file("./src//lib.rs", *modules, lost), OK
     for k in range(n):
         yield set_file(f"{climbs}src/e{k}/../f{k}.rs", node("Struct", 1, "S", vis="pub")), OK
-    yield set_file("src/../../src/f0.rs"), {"error": "command"}
-    yield set_file("src/.."), {"error": "command"}
+    for lost_text in ("src/../../src/f0.rs", "src/..", climbs + "..", "", "./."):
+        yield set_file(lost_text), {"error": "command"}
+        yield {"do": "remove file", "file": lost_text}, {"error": "command"}
+        yield {"do": "tree", "crate": 0, "file": lost_text}, {"error": "command"}
+        yield {"do": "modules", "file": lost_text}, {"error": "command"}
     yield REFRESH, {"ok": [[0]]}
+    page = "// AstId: Struct[0001, 0]\npub struct S { ... }\n"
     for k in range(n):
         yield resolve(f"m{k}::S"), is_bound(item("Struct", 1, f"src/f{k}.rs"), vis="pub")
+        yield {"do": "tree", "crate": 0, "file": f"{climbs}/src/./x/../f{k}.rs"}, {"ok": page}
+        yield {"do": "modules", "file": f"src/{climbs}f{k}.rs"}, {"ok": [[0, f"m{k}"]]}
+    inside = node("Module", 1, "o", attrs=[{"path": "path", "literal": f"{climbs}../src/f{n - 1}.rs"}])
+    place = [0, block(1)]
+    yield set_block(place, inside), OK
+    yield REFRESH, {"ok": [place]}
+    root = {"crate": 0, "in": [place], "kind": "BlockExpr"}
+    yield resolve("o", *place), is_bound(item("Module", 1, place), vis={"explicit": False, "module": root}, kinds=("types",))
+    yield resolve("o::S", *place), is_bound(item("Struct", 1, f"src/f{n - 1}.rs"), vis="pub")
+    yield {"do": "remove file", "file": f"src/f/../{climbs}f{n - 1}.rs"}, OK
+    yield status(0), {"ok": "stale"}
+    yield set_file(f"src/{climbs}/f{n - 1}.rs", node("Struct", 1, "S", vis="pub")), OK
+    yield REFRESH, {"ok": [[0], place]}
     told = {"candidates": ["../../f0.rs"], "item": {"id": [n, 0], "in": ["src/lib.rs"], "kind": "Module"}, "kind": "unresolved module", "module": ROOT}
     yield diagnostics(), {"ok": [told]}
 
@@ -328,29 +510,150 @@ def nested(count, inner, around):
     return inner
 
 
+def unit(*nodes):
+    return set_file("lib.rs", *nodes)
+
+
+def function(**fields):
+    return unit(node("Fn", 1, "f", body="", **fields))
+
+
+def named_things():
+    """Where a name stands in a line: each place of one, of the line that is made with a name."""
+    for kind in ("Struct", "Union", "Const", "Static", "TypeAlias", "Trait", "Module", "ExternCrate", "MacroRules", "MacroDef", "Enum"):
+        fields = {"Enum": {"variants": []}, "Trait": {"items": []}, "Module": {"nodes": []}}.get(kind, {})
+        yield lambda name: unit(node(kind, 1, name, **fields))
+    yield lambda name: unit(node("Module", 1, name))
+    yield lambda name: unit(node("ExternCrate", 1, "x", **{"as": name}))
+    yield lambda name: unit(node("Use", 1, tree={"single": "x", "as": name}))
+    yield lambda name: unit(node("Enum", 1, "E", variants=[{"id": [1, 0], "name": name}]))
+    yield lambda name: unit(node("MacroRules", 1, "m", helpers=["h", name]))
+    yield lambda name: unit(node("MacroDef", 1, "m", expander="builtin_derive", helpers=[name]))
+    yield lambda name: unit(node("Trait", 1, "T", items=[node("Fn", 1, name)]))
+    yield lambda name: unit(node("Impl", 1, trait=False, items=[node("TypeAlias", 1, name)]))
+    yield lambda name: unit(node("ExternBlock", 1, nodes=[node("Static", 1, name)]))
+    yield lambda name: function(attrs=[{"path": "cfg", "cfg": name}])
+    yield lambda name: function(attrs=[{"path": "cfg", "cfg": {"not": {"key": name, "value": ""}}}])
+    yield lambda name: function(attrs=[{"path": "proc_macro_derive", "derive": name}])
+    yield lambda name: function(attrs=[{"path": "proc_macro_derive", "derive": "D", "helpers": [name]}])
+    yield lambda name: {"do": "set file", "file": "lib.rs", "unit": {"attrs": [{"path": "cfg_attr", "cfg": {"any": [name]}, "attrs": []}]}}
+    yield lambda name: set_block([0, name, block(1)])
+    yield lambda name: set_block([0, block(1), name, block(1)])
+    for made in pathed_things():
+        yield lambda name: made("a::" + name)
+        yield lambda name: made("$0::" + name)
+
+
+def pathed_things():
+    """Where a path stands in a line that is answered ok."""
+    yield lambda path: unit(node("Use", 1, tree={"single": path}))
+    yield lambda path: unit(node("Use", 1, tree={"glob": path}))
+    yield lambda path: unit(node("Use", 1, tree={"list": [{"path": path, "list": []}]}))
+    yield lambda path: unit(node("MacroCall", 1, path=path, input=""))
+    yield lambda path: unit(node("Trait", 1, "T", items=[node("MacroCall", 1, path=path, input="")]))
+    yield lambda path: function(attrs=[{"path": path}])
+    yield lambda path: function(attrs=[{"path": path, "tokens": ""}])
+    yield lambda path: function(attrs=[{"path": "derive", "paths": ["D", path]}])
+    yield lambda path: function(attrs=[{"path": "cfg_attr", "cfg": False, "attrs": [{"path": path}]}])
+    yield lambda path: function(vis={"in": path})
+    yield lambda path: unit(node("Struct", 1, "S", fields=[{"in": path}]))
+    yield lambda path: unit(node("Module", 1, "m", nodes=[node("Use", 1, tree={"single": path})]))
+    yield lambda path: set_block([0, block(1)], node("Use", 1, tree={"single": path}))
+    yield lambda path: expansion("A", "k", node("Use", 1, tree={"single": path}))
+
+
+def limits_of_names_and_paths(_):
+    """A name of 1,000 bytes, a path of 64 segments and one of 255 levels, wherever they may stand, and one above each."""
+    yield crates(), OK
+    for count, wanted in ((1000, OK), (1001, too_large("name"))):
+        for made in named_things():
+            for text in ("x" * count, "\u00e9" * 500 + "x" * (count - 1000)):
+                yield made(text), wanted
+    for made in pathed_things():
+        for count, wanted in ((64, OK), (65, too_large("path"))):
+            for start in ("", "::", "crate::", "self::", "$0::", "$4294967295::"):
+                yield made(start + "::".join(["a"] * count)), wanted
+        for count, wanted in ((255, OK), (256, too_large("path"))):
+            yield made("::".join(["super"] * count)), wanted
+            yield made("::".join(["self", *["super"] * count, *["a"] * 64])), wanted
+        yield made("::".join(["super"] * 256 + ["x" * 1001])), too_large("name")
+    # questions have the same limits
+    yield REFRESH, {"ok": [[0], [0, block(1)]]}
+    for path, wanted in (("a", NOTHING), ("x" * 1000, NOTHING), ("x" * 1001, too_large("name")), ("::".join(["a"] * 65), too_large("path")), ("super" + "::super" * 255, too_large("path"))):
+        yield resolve(path), wanted
+        yield {"do": "trait items", "at": [0], "path": path}, {"error": "not a trait"} if wanted == NOTHING else wanted
+    for name, wanted in (("x" * 1000, UNKNOWN), ("x" * 1001, too_large("name"))):
+        yield status(0, name), wanted
+        yield status(0, block(1), "a", name), wanted
+        other = {"error": "unknown place"} if wanted == UNKNOWN else wanted
+        yield {"do": "dump", "at": [0, name]}, other
+        yield {"do": "names", "at": [0, name]}, other
+        yield {"do": "impl items", "at": [0, name], "impl": 0}, other
+    for count, wanted in ((64, OK), (65, too_large("file"))):
+        file = "/".join(["a"] * count)
+        yield {"do": "remove file", "file": "./b/../" + file}, wanted
+        yield {"do": "tree", "crate": 0, "file": file}, {"ok": "\n"} if wanted == OK else wanted
+        yield {"do": "modules", "file": file}, {"ok": []} if wanted == OK else wanted
+
+
+def limits_of_crates(_):
+    """Names, paths, files and numbers of a line of crates, at each limit and one above."""
+    given = [
+        ("name", 1000, lambda count: {"deps": [{"crate": 0, "name": "x" * count}]}),
+        ("name", 1000, lambda count: {"cfg": ["x" * count]}),
+        ("name", 1000, lambda count: {"cfg": [{"key": "x" * count, "value": "y" * 2000}]}),
+        ("name", 1000, lambda count: {"attrs": [{"path": "a::" + "x" * count}]}),
+        ("path", 64, lambda count: {"attrs": [{"path": "::".join(["a"] * count)}]}),
+        ("cfg", 16, lambda count: {"attrs": [{"path": "cfg", "cfg": nested(count, "x", lambda it: {"not": it})}]}),
+        ("file", 64, lambda count: {"root": "/".join(["a"] * count)}),
+    ]
+    for what, most, made in given:
+        for count, wanted in ((most + 1, too_large(what)), (most, OK)):
+            yield crates({"root": "lib.rs"}, {"root": "lib.rs", **made(count)}), wanted
+            yield status(1), {"ok": "stale"} if wanted == OK else {"error": "command"}
+        yield None, None
+    for fields, wanted in (({"deps": [{"crate": 1, "name": "x"}]}, {"error": "dependency order", "crate": 1}), ({"deps": [{"crate": 4_294_967_295, "name": "x"}]}, {"error": "dependency order", "crate": 1}), ({"deps": [{"crate": 4_294_967_296, "name": "x"}]}, {"error": "command"})):
+        yield crates({"root": "lib.rs"}, {"root": "lib.rs", **fields}), wanted
+    yield crates(), OK
+    yield status(4_294_967_295), UNKNOWN
+    yield status(4_294_967_296), {"error": "command"}
+
+
 def each_limit(_):
     """Units at each limit and one above."""
-    def unit(*nodes):
-        return set_file("lib.rs", *nodes)
-
     yield crates(), OK
-    struct = lambda fields: unit(node("Struct", 1, "S", shape="tuple", fields=[None] * fields))
-    union = lambda fields: unit(node("Union", 1, "U", fields=[None] * fields))
-    for made in (struct, union):
+    index = lambda k: {"id": [k % 65536, k // 65536]}
+    struct = lambda fields, *more: unit(node("Struct", 1, "S", shape="tuple", fields=[None] * fields), *more)
+    impls = [{"kind": "Impl", "trait": False, "items": [], **index(k)} for k in range(100_000)]
+    trait = node("Trait", 1, "T", items=[{"kind": "Const", **index(k)} for k in range(49_999)])
+    block_of_statics = node("ExternBlock", 1, nodes=[{"kind": "Static", "name": "x", **index(k)} for k in range(49_999)])
+    rows = [
+        struct,
+        lambda count: unit(node("Union", 1, "U", fields=[None] * count)),
+        # the Use and the list around are two of them
+        lambda count: unit(node("Use", 1, tree={"list": [{"glob": None}] * (count - 1)})),
+        lambda count: struct(count - 400_001, node("Enum", 1, "E", variants=[{**index(k), "name": "A"} for k in range(400_000)])),
+        lambda count: struct(count - 200_000, *impls, trait, block_of_statics),
+    ]
+    for made in rows:
         yield made(999_999), OK
         yield made(1_000_000), too_large("nodes")
+    modules = lambda count: nested(count, node("Struct", 1, "S"), lambda it: node("Module", it["id"][0] + 1, "m", nodes=[it]))
+    trees = lambda count: node("Use", 1, tree=nested(count, {"single": "a"}, lambda it: {"list": [it]}))
+    conditions = lambda count: node("Fn", 1, "f", body="", attrs=[{"path": "cfg", "cfg": nested(count, "x", lambda it: {"not": it})}])
+    attributes = lambda count: node("Fn", 1, "f", body="", attrs=[nested(count, {"path": "inline"}, lambda it: {"path": "cfg_attr", "cfg": "x", "attrs": [it]})])
+    both = lambda count: node("Fn", 1, "f", body="", attrs=[{"path": "cfg_attr", "cfg": nested(count, "x", lambda it: {"all": [it]}), "attrs": [{"path": "cfg", "cfg": nested(count, "x", lambda it: {"any": [it]})}]}])
+    indices = lambda count: {"kind": "Struct", "name": "S", "id": [65535, count]}
+    variants = lambda count: node("Enum", 1, "E", variants=[{"id": [65535, count], "name": "A"}])
+    sources = (lambda it: unit(it), lambda it: set_block([0, block(1)], it), lambda it: expansion("A", "k", it))
+    for what, most, made in [("modules", 32, modules), ("use tree", 24, trees), ("cfg", 16, conditions), ("cfg", 16, attributes), ("cfg", 15, both), ("index", 2047, indices), ("index", 2047, variants)]:
+        for source in sources:
+            yield source(made(most)), OK
+            yield source(made(most + 1)), too_large(what)
     rows = [
-        ("name", 1000, lambda count: unit(node("Fn", 1, "x" * count, body=""))),
-        ("path", 64, lambda count: unit(node("Use", 1, tree={"single": "::".join(["a"] * count)}))),
-        ("path", 255, lambda count: unit(node("Use", 1, tree={"single": "::".join(["super"] * count + ["a"])}))),
-        ("path", 255, lambda count: unit(node("Use", 1, tree={"single": "::".join(["self"] + ["super"] * count)}))),
         ("file", 64, lambda count: set_file("/".join(["a"] * count))),
-        ("index", 2047, lambda count: unit({"kind": "Struct", "name": "S", "id": [65535, count]})),
-        ("modules", 32, lambda count: unit(nested(count, node("Struct", 1, "S"), lambda it: node("Module", it["id"][0] + 1, "m", nodes=[it])))),
-        ("use tree", 24, lambda count: unit(node("Use", 1, tree=nested(count, {"single": "a"}, lambda it: {"list": [it]})))),
-        ("cfg", 16, lambda count: unit(node("Fn", 1, "f", body="", attrs=[{"path": "cfg", "cfg": nested(count, "x", lambda it: {"not": it})}]))),
-        ("cfg", 16, lambda count: unit(node("Fn", 1, "f", body="", attrs=[nested(count, {"path": "inline"}, lambda it: {"path": "cfg_attr", "cfg": "x", "attrs": [it]})]))),
-        ("cfg", 15, lambda count: unit(node("Fn", 1, "f", body="", attrs=[{"path": "cfg_attr", "cfg": nested(count, "x", lambda it: {"all": [it]}), "attrs": [{"path": "cfg", "cfg": nested(count, "x", lambda it: {"any": [it]})}]}]))),
+        ("index", 2047, lambda count: set_block([0, {"block": [65535, count]}])),
+        ("index", 2047, lambda count: {"do": "remove block", "at": [0, {"block": [0, count]}, block(1)]}),
         ("blocks", 16, lambda count: set_block([0, *(block(k) for k in range(count))], node("Struct", 1, "S"))),
     ]
     for what, most, made in rows:
@@ -359,10 +662,12 @@ def each_limit(_):
     yield unit({"kind": "Struct", "name": "S", "id": [65536, 0]}), {"error": "command"}
     yield b"[" * 127 + b"]" * 127, {"error": "command"}
     yield b"[" * 128 + b"]" * 128, {"error": "json"}
+    yield b'{"x":' * 126 + b"[]" + b"}" * 126, {"error": "command"}
+    yield b'{"x":' * 127 + b"[]" + b"}" * 127, {"error": "json"}
     start = line(unit(node("Fn", 1, "f", body="@")))
     for more, wanted in ((0, OK), (1, too_large("line"))):
         yield start.replace(b"@", b"x" * (16_777_216 + more - len(start) + 1)), wanted
-    yield REFRESH, {"ok": [[0]]}
+    yield {"do": "status", "at": [0]}, {"ok": "stale"}
 
 
 # ---- no end
@@ -390,17 +695,24 @@ def modules_without_end(n):
 
 INPUTS = {
     blocks_edited_one_by_one: 5000,
+    many_blocks: 10_000,
     globs_of_a_ring_in_blocks: 500,
     lists_of_nested_expansions: 128,
     list_that_names_itself: 500,
+    each_depth_of_modules: 32,
+    rings_of_macro_use: 100,
     expansion_that_names_itself: 4_294_967_295,
     rounds_at_the_limit: 0,
     attributes_of_one_item: 5000,
+    attributes_to_the_limit: 1000,
+    paths_of_nested_lists: 64,
     chain_of_crates: 10_000,
     files_by_parents: 1000,
     ring_of_files: 100,
     long_names: 32,
     each_limit: 0,
+    limits_of_names_and_paths: 0,
+    limits_of_crates: 0,
     modules_without_end: 3,
 }
 MEGABYTES = {modules_without_end: 100}

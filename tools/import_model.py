@@ -2,12 +2,13 @@
 """Random crates with imports, globs and macros, and what a plain model of the rules (tools/model) answers of their names.
 
 Usage, at the top of the repository: tools/import_model.py [--sessions N] [--seed S] [--macros | --calls | --globs | --attributes |
---blocks | --edits] [--program FILE] [--write FOLDER] [--rows].
+--blocks | --data | --edits] [--program FILE] [--write FOLDER] [--rows].
 With --macros the crates define macros too, in textual scope and as items. With --calls they also call them, over a table of
 expansions that define, import and call further, modules are in files too, and files and expansions are edited. With
 --globs a crate's modules are full of globs and calls, so that what an expansion defines goes along globs to what the next
 call names. With --attributes items have attributes and derives besides, and some crates are procedural macros'. With --blocks
-there are blocks besides, in modules and in one another, which are edited too, and all maps are dumped. With --edits the
+there are blocks besides, in modules and in one another, which are edited too, and all maps are dumped. With --data there are
+attributes, derives and conditions, and crates get other editions, attributes, options and dependencies. With --edits the
 sessions are those of tools/random_sessions.py.
 It runs the program, by default crates/hir_session_main/out/hir_session_main, over each session, and ends with 1 at the first
 whose answers aren't those of the model, which it writes to standard error. With --write it runs nothing, and writes the
@@ -30,7 +31,7 @@ NAMES = MODULES + ITEMS
 TEXTS, INPUTS = ["A", "B"], ["i", "j"]
 ROWS = "crates/hir_session_rows"
 # what the model doesn't look for
-REFUSALS = ("json", "command", "too large", "duplicate id", "dependency order", "memory", "too many")
+REFUSALS = ("json", "command", "too large", "duplicate id", "memory", "too many")
 
 
 class Spot:
@@ -564,6 +565,63 @@ class Blocks(Session):
         self.ask_blocks(workspace, say)
 
 
+class Data(Attributes):
+    """Draws a session with attributes and conditions, in which crates get other data."""
+
+    OPTIONS = ["p", {"key": "q", "value": "1"}]
+
+    def __init__(self, seed):
+        super().__init__(seed)
+        for nodes in self.units:
+            self.condition(nodes)
+        for unit in [*self.files.values(), *(entry[0] for entry in self.entries.values())]:
+            if isinstance(unit, dict):
+                self.condition(unit["nodes"])
+
+    def condition(self, nodes):
+        for node in nodes:
+            self.condition(node.get("nodes", []) + node.get("items", []) + node.get("variants", []))
+            if self.chance(0.1):
+                node["attrs"] = node.get("attrs", []) + [{"path": "cfg", "cfg": self.choose([*self.OPTIONS, {"not": "p"}, {"any": self.OPTIONS}])}]
+
+    def attributes(self, drawn):
+        """Attributes of a crate; the limit of depths keeps expansions few."""
+        others = [{"path": "register_tool", "paths": ["nope", "d"]}, {"path": "no_std"}, {"path": "cfg", "cfg": "p"}, {"path": "allow", "tokens": "x"},
+                  {"path": "cfg_attr", "cfg": "p", "attrs": [{"path": "recursion_limit", "literal": "0"}]}]
+        limit = {"path": "recursion_limit", "literal": drawn.choice("0123")}
+        return [limit] + [attr for attr in others if drawn.random() < 0.2]
+
+    def changed(self, number, krate, drawn):
+        roll, found = drawn.random(), {**krate}
+        if roll < 0.2:
+            found["edition"] = drawn.choice(["2015", "2018", "2021", "2024"])
+        elif roll < 0.45:
+            found["attrs"] = self.attributes(drawn)
+        elif roll < 0.65:
+            found["cfg"] = [option for option in self.OPTIONS if drawn.random() < 0.5]
+        elif number:
+            names = [drawn.choice(["d", "d", "a", "x"]) for _ in range(drawn.randint(0, 2))]
+            found["deps"] = [{"crate": drawn.randrange(number), "name": name, "prelude": drawn.random() < 0.8} for name in names]
+        return found
+
+    def edit(self, workspace, say):
+        drawn, crates = random.Random(dump(self.inputs)), list(self.inputs)
+        for _ in range(6):
+            number = drawn.randrange(len(crates))
+            crates[number] = self.changed(number, crates[number], drawn)
+            say({"do": "set crate", "crate": number, "to": {**crates[number], "proc_macro": drawn.random() < 0.5}})
+            for other in range(len(crates)):
+                say({"do": "status", "at": [other]})
+            if drawn.random() < 0.3:
+                continue
+            say({"do": "refresh"})
+            for other in range(len(crates)):
+                say({"do": "diagnostics", "crate": other})
+                say({"do": "names", "at": [other]})
+                say({"do": "resolve", "at": [other], "path": drawn.choice(["$0::", "d::", "::d::", "::a::"]) + drawn.choice(NAMES)})
+        super().edit(workspace, say)
+
+
 class Edits:
     """A session of tools/random_sessions.py."""
 
@@ -631,6 +689,7 @@ def main():
     parser.add_argument("--globs", action="store_true")
     parser.add_argument("--attributes", action="store_true")
     parser.add_argument("--blocks", action="store_true")
+    parser.add_argument("--data", action="store_true")
     parser.add_argument("--edits", action="store_true")
     parser.add_argument("--rows", action="store_true")
     parser.add_argument("--program", default="crates/hir_session_main/out/hir_session_main")
@@ -639,7 +698,7 @@ def main():
     sys.setrecursionlimit(100000)
     if options.rows:
         return compare_rows()
-    written, kinds = [], {"edits": Edits, "attributes": Attributes, "globs": Globs, "blocks": Blocks}
+    written, kinds = [], {"edits": Edits, "data": Data, "attributes": Attributes, "globs": Globs, "blocks": Blocks}
     kind = next((kind for kind in kinds if vars(options)[kind]), None)
     for seed in range(options.seed, options.seed + options.sessions):
         lines = lines_of(Session(seed, options.macros, options.calls) if kind is None else kinds[kind](seed))

@@ -37,13 +37,36 @@ def stored_sessions():
     return [(label, lines, replies) for (label, lines), (_, replies) in zip(*parts)]
 
 
+# parts of the labels of the stored sessions in which each request for memory, each read and each write fails in turn
+SESSIONS = [
+    "recursion_limit_drops_deeper_calls",
+    "globs: struct_by_glob",
+    "module_files: absent_file_is_looked_for",
+    "marks: edit_below_reaches_dependents, edit_above_spares_dependencies",
+    "blocks: block_shadows_its_module, block_goes_with_its_module",
+    "hostile: macros_attributes_expansions_and_two_blocks",
+]
+
+
+def sessions_of(labels):
+    """The stored sessions whose labels contain one of these texts, each of which has to be in one."""
+    found = stored_sessions()
+    missing = [it for it in labels if not any(it in label for label, _, _ in found)]
+    if missing:
+        raise SystemExit(f"no stored session has {missing[0]} in its label")
+    return [it for it in found if any(label in it[0] for label in labels)]
+
+
 _library = []
 # what doesn't end is ended after so many seconds of processor
 MOST_SECONDS = 120
 
 
-def bounded():
-    resource.setrlimit(resource.RLIMIT_CPU, (MOST_SECONDS, MOST_SECONDS))
+def started(program, **how):
+    """The program, started; its limit is set from here, since a start with work to do in the new process takes longer."""
+    child = subprocess.Popen([program], **how)
+    resource.prlimit(child.pid, resource.RLIMIT_CPU, (MOST_SECONDS, MOST_SECONDS))
+    return child
 
 
 def library():
@@ -57,53 +80,45 @@ def library():
     return _library[0]
 
 
-class Run:
-    """A program that is running, with calls that fail by `faults`, which are variables of tools/faults.c."""
-
-    def __init__(self, program, **faults):
-        inner, outer = os.pipe()
-        self.counts = inner
-        settings = {**os.environ, "LD_PRELOAD": library(), "REPORT": str(outer)}
-        settings.update({name.upper(): str(value) for name, value in faults.items()})
-        pipes = dict.fromkeys(("stdin", "stdout", "stderr"), subprocess.PIPE)
-        self.child = subprocess.Popen([program], **pipes, env=settings, pass_fds=[outer], preexec_fn=bounded)
-        os.close(outer)
-
-    def say(self, command):
-        """Writes a line, and reads its reply; nothing where the program has ended."""
-        try:
-            self.child.stdin.write(line(command) + b"\n")
-            self.child.stdin.flush()
-        except BrokenPipeError:
-            pass
-        return self.child.stdout.readline().removesuffix(b"\n")
-
-    def end(self):
-        """The status, the words on standard error, and how many requests for memory there were and how many were refused."""
-        try:
-            self.child.stdin.close()
-        except BrokenPipeError:
-            pass
-        rest, words = self.child.stdout.read(), self.child.stderr.read()
-        self.child.stdout.close()
-        self.child.stderr.close()
-        status = self.child.wait()
-        counts = os.read(self.counts, 100).split()
-        os.close(self.counts)
-        requests, refused = map(int, counts) if counts else (0, 0)
-        return status, (rest + words).decode(errors="replace"), requests, refused
-
-
-def answers(program, given, **faults):
-    """What is written for the bytes of an input, the status, and the words on standard error."""
+def answers(program, given, report=None, **faults):
+    """What is written for the bytes of an input, the status, and the words on standard error; `faults` are variables of tools/faults.c."""
     settings = {**os.environ, "LD_PRELOAD": library()} if faults else dict(os.environ)
     settings.update({name.upper(): str(value) for name, value in faults.items()})
+    if report is not None:
+        settings["REPORT"] = str(report)
     # a file, since a read of a pipe may give less than there is
     with tempfile.TemporaryFile() as input_file:
         input_file.write(given)
         input_file.seek(0)
-        done = subprocess.run([program], stdin=input_file, stdout=subprocess.PIPE, stderr=subprocess.PIPE, env=settings, preexec_fn=bounded)
-    return done.stdout, done.returncode, done.stderr.decode(errors="replace")
+        pipes = {"stdin": input_file, "stdout": subprocess.PIPE, "stderr": subprocess.PIPE}
+        with started(program, **pipes, env=settings, pass_fds=[] if report is None else [report]) as child:
+            try:
+                written, words = child.communicate()
+            except BaseException:
+                child.kill()
+                raise
+    return written, child.returncode, words.decode(errors="replace")
+
+
+class Again:
+    """A run over lines, each of which is sent again up to `again` times while it is answered by `memory`: the last reply to each line
+    and how many came before it, the status, the words on standard error, and how many requests for memory there were and were refused."""
+
+    def __init__(self, program, lines, again, **faults):
+        inner, outer = os.pipe()
+        given = b"".join(it + b"\n" for it in lines)
+        written, self.status, self.words = answers(program, given, report=outer, again=again, **faults)
+        os.close(outer)
+        counts = os.read(inner, 100).split()
+        os.close(inner)
+        self.requests, self.refused = map(int, counts) if counts else (0, 0)
+        found, self.replies = iter(written.split(b"\n")[:-1]), []
+        for _ in lines:
+            reply, tries = next(found, b""), 0
+            while reply == MEMORY and tries < again:
+                reply, tries = next(found, b""), tries + 1
+            self.replies.append((reply, tries))
+        self.words += b"\n".join(found).decode(errors="replace")
 
 
 def is_as_ample(command, reply, ample, was_repeated):

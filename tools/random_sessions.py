@@ -7,12 +7,14 @@ With --print it runs nothing, and writes the commands of the sessions as they st
 
 A session has one to four crates, each with a root file, and module files that any of them may name, blocks in modules and in one
 another, also where nothing holds them, all with imports, globs, macros, calls, traits and impls, and a table of expansions. Files, blocks and
-expansions are set, changed, removed and refreshed some times. At its end all is refreshed, and a list of paths is asked at each
-crate and each block, with its status, its dump and the items of traits and impls, and the diagnostics of each crate. A second session is handed the sources and
+expansions are set, changed, removed and refreshed some times, and crates get other editions, attributes, options and dependencies, or
+what they have, or what is refused. At its end all is refreshed, and a list of paths is asked at each crate and each block, with its
+status, its dump and the items of traits and impls, and the diagnostics of each crate. A second session is handed the crates, sources and
 expansions of that moment at once, and asked the same. It ends with 1 at the first session whose answers differ, which it writes
 to standard error.
 """
 import argparse
+import copy
 import json
 import random
 import subprocess
@@ -20,12 +22,14 @@ import sys
 
 NAMES = ["a", "b", "c", "m", "x", "S", "T"]
 VISIBILITIES = [None, None, "pub", "pub", "pub", "crate", {"in": "super"}, "self"]
-ROOTS = ["", "", "", "self::", "super::", "crate::", "::"]
+ROOTS = 3 * ["", "", "", "self::", "super::", "crate::", "::"] + ["d0::", "d1::", "::d0::", "core::", "$0::", "$1::"]
 # a file of a `path` attribute has no module files and no calls, or it could name itself twice
 LEAF = "leaf.rs"
 MACROS, TEXTS, INPUTS = ["f", "g", "x"], ["A", "B"], ["i", "j"]
 FILES = ["a.rs", "a/mod.rs", "a/b.rs", "a/b/mod.rs", "b.rs", "m.rs", LEAF]
 EDITIONS = ["2015", "2018", "2021", "2024"]
+OPTIONS = ["p", {"key": "q", "value": "1"}]
+CONDITIONS = [*OPTIONS, {"not": "p"}, {"any": OPTIONS}, {"all": OPTIONS}]
 
 
 class Crates:
@@ -66,6 +70,18 @@ class Crates:
         return tree
 
     def item(self, depth):
+        """An item, now and then under a condition."""
+        item = self.any_item(depth)
+        if self.random.random() < 0.1:
+            condition = {"path": "cfg", "cfg": self.choose(CONDITIONS)}
+            if self.random.random() < 0.2:
+                condition = {"path": "cfg_attr", "cfg": self.choose(CONDITIONS), "attrs": [condition]}
+            item["attrs"] = item.get("attrs", []) + [condition]
+        elif self.random.random() < 0.03:
+            item["attrs"] = item.get("attrs", []) + [{"path": "mine::x"}]
+        return item
+
+    def any_item(self, depth):
         kinds = ["Module", "Module", "Use", "Use", "Use", "Struct", "Fn", "Enum", "Const", "Trait", "Trait", "Impl", "Impl", "ExternCrate", "Macro", "Macro"]
         kind = self.choose(kinds + 6 * ["MacroCall"] if self.calls else kinds)
         name = self.choose(NAMES)
@@ -92,8 +108,7 @@ class Crates:
         if kind == "Fn":
             return self.node("Fn", name=name, body=self.choose(["", "1", "2"]))
         if kind == "Enum":
-            self.next_id += 1
-            return self.node("Enum", name=name, variants=[{"id": [self.next_id, 0], "name": self.choose(NAMES)}])
+            return self.node("Enum", name=name, variants=self.variants())
         if kind == "Const":
             return self.node("Const", name=name)
         if kind == "Trait":
@@ -106,6 +121,13 @@ class Crates:
         if self.random.random() < 0.4:
             extern_crate["attrs"] = [{"path": "macro_use"}]
         return extern_crate
+
+    def variants(self):
+        self.next_id += 1
+        variant = {"id": [self.next_id, 0], "name": self.choose(NAMES)}
+        if self.random.random() < 0.2:
+            variant["attrs"] = [{"path": "cfg", "cfg": self.choose(CONDITIONS)}]
+        return [variant]
 
     def held(self):
         """What a trait or an impl holds."""
@@ -120,7 +142,8 @@ class Crates:
             if kind in ("Fn", "Const"):
                 fields["body"] = self.choose(["", "1"])
             if self.random.random() < 0.1:
-                fields["attrs"] = [{"path": "cfg", "cfg": False}] if self.random.random() < 0.7 else [{"path": "nope"}]
+                condition = {"path": "cfg", "cfg": self.choose([False, "p"])}
+                fields["attrs"] = [condition] if self.random.random() < 0.7 else [{"path": "nope"}]
             found.append(self.node(kind, **fields))
         return found
 
@@ -142,9 +165,16 @@ class Crates:
         self.leaf, self.expansion, self.calls = file == LEAF, False, 0 if file == LEAF else 6
         first = [self.makro() for _ in range(self.random.randint(0, 2))]
         unit = {"nodes": first + self.items(0) + (self.items(0) if self.calls else [])}
-        if self.random.random() < 0.05:
-            unit["attrs"] = [{"path": "cfg", "cfg": False}]
+        if file in ("c0.rs", "c1.rs") and self.random.random() < 0.5:
+            unit["nodes"].append(self.prelude())
+        if self.random.random() < 0.1:
+            unit["attrs"] = [{"path": "cfg", "cfg": self.choose([False, *CONDITIONS])}]
         return unit
+
+    def prelude(self):
+        """The modules in which crates look for the names of their preludes."""
+        editions = [{**self.node("Module", name="rust_" + edition, nodes=self.items(3)), "vis": "pub"} for edition in EDITIONS if self.random.random() < 0.6]
+        return {**self.node("Module", name="prelude", nodes=editions), "vis": "pub"}
 
     def block(self):
         """What a block may hold."""
@@ -172,13 +202,31 @@ class Crates:
     def crates(self, count):
         found = []
         for number in range(count):
-            limit = {"path": "recursion_limit", "literal": self.choose("1234")}
-            entry = {"edition": self.choose(EDITIONS), "root": f"c{number}.rs", "attrs": [limit]}
-            below = [other for other in range(number) if self.random.random() < 0.6]
+            entry = {"edition": self.choose(EDITIONS), "root": f"c{number}.rs", "attrs": self.attributes()}
+            below = self.dependencies(number)
             if below:
-                entry["deps"] = [{"crate": other, "name": f"d{place}", "prelude": self.random.random() < 0.7} for place, other in enumerate(below)]
+                entry["deps"] = below
+            if self.random.random() < 0.3:
+                entry["cfg"] = self.options()
             found.append(entry)
         return found
+
+    def attributes(self):
+        """Attributes of a crate, before all a limit of depths, or expansions would go on for long."""
+        others = [{"path": "no_std"}, {"path": "no_core"}, {"path": "register_tool", "paths": ["mine"]}, {"path": "allow", "tokens": "x"},
+                  {"path": "cfg", "cfg": "p"}, {"path": "cfg_attr", "cfg": {"not": "p"}, "attrs": [{"path": "no_core"}]}]
+        drawn = [{"path": "recursion_limit", "literal": self.choose("1234")}]
+        while self.random.random() < 0.25:
+            drawn.append(self.choose(others))
+        return drawn
+
+    def options(self):
+        return [option for option in OPTIONS if self.random.random() < 0.5]
+
+    def dependencies(self, number):
+        below = [other for other in range(number) if self.random.random() < 0.6]
+        names = [f"d{place}" if self.random.random() < 0.8 else self.choose(["core", "std", "d0"]) for place in range(len(below))]
+        return [{"crate": other, "name": name, "prelude": self.random.random() < 0.7} for name, other in zip(names, below)]
 
 
 def edited(unit, drawn, another):
@@ -234,6 +282,47 @@ def edit_of_blocks(blocks, count, drawn):
     return {"do": "set block", "at": json.loads(place), "unit": blocks[place]}
 
 
+def changed_dependencies(number, dependencies, drawn):
+    """The dependencies with one taken away, added, renamed, moved into the extern prelude or out of it, or put elsewhere."""
+    found, roll = copy.deepcopy(dependencies), drawn.random.random()
+    if not found or roll < 0.3:
+        added = {"crate": drawn.random.randrange(number), "name": drawn.choose(["d0", "d1", "core", "std"])} if number else None
+        return found + [added] if added is not None else found
+    one = drawn.choose(found)
+    if roll < 0.55:
+        found.remove(one)
+    elif roll < 0.7:
+        one["name"] = drawn.choose(["d0", "d1", "core", "std"])
+    elif roll < 0.85:
+        one["prelude"] = not one.get("prelude", True)
+    else:
+        drawn.random.shuffle(found)
+    return found
+
+
+def edit_of_crates(crates, drawn):
+    """Gives a crate other data, or what it has; now and then what is refused. Its root file and `proc_macro` count for nothing."""
+    number, roll = drawn.random.randrange(len(crates)), drawn.random.random()
+    to = copy.deepcopy(crates[number])
+    if roll < 0.2:
+        to["edition"] = drawn.choose(EDITIONS)
+    elif roll < 0.4:
+        to["attrs"] = drawn.attributes()
+    elif roll < 0.6:
+        to["cfg"] = drawn.options()
+    elif roll < 0.9:
+        to["deps"] = changed_dependencies(number, to.get("deps", []), drawn)
+    command = {"do": "set crate", "crate": number, "to": to}
+    if drawn.random.random() < 0.1:
+        later = {"crate": drawn.random.randrange(number, 5), "name": "d0"}
+        refused = {**to, "deps": to.get("deps", []) + [later]} if drawn.random.random() < 0.6 else to
+        return {**command, "crate": number if refused is not to else len(crates) + drawn.random.randrange(3), "to": refused}
+    crates[number] = to
+    if drawn.random.random() < 0.3:
+        command["to"] = {**to, "root": drawn.choose(FILES), "proc_macro": True}
+    return command
+
+
 def asks_of_items(at, drawn):
     """What is asked of traits and impls at a place."""
     paths = [drawn.choose(NAMES) for _ in range(4)] + [drawn.path()]
@@ -254,13 +343,15 @@ def session(seed):
     """The commands of a session with edits, those of a fresh one over its last sources, and how many of each are asked last."""
     drawn = Crates(seed)
     crates = drawn.crates(drawn.random.randint(1, 4))
-    begin = {"do": "crates", "crates": crates}
-    files, blocks, entries, commands = {}, {}, {}, [begin]
+    files, blocks, entries, commands = {}, {}, {}, [{"do": "crates", "crates": copy.deepcopy(crates)}]
     for _ in range(drawn.random.randint(10, 36)):
         roll = drawn.random.random()
-        if roll < 0.35:
+        if roll < 0.3:
             commands.append(edit_of_expansions(entries, len(crates), drawn))
-        elif roll < 0.65:
+        elif roll < 0.45:
+            commands.append(edit_of_crates(crates, drawn))
+            commands += [{"do": "status", "at": [number]} for number in range(len(crates))]
+        elif roll < 0.7:
             commands.append(edit_of_blocks(blocks, len(crates), drawn))
         else:
             commands.append(edit_of_files(files, crates, drawn))
@@ -280,7 +371,7 @@ def session(seed):
             asks += asks_of_items(at, drawn)
     for place in list(blocks) + [drawn.block_place(len(crates), blocks)]:
         asks += asks_of_block(place, drawn)
-    fresh = [begin] + [{"do": "set file", "file": file, "unit": unit} for file, unit in files.items()]
+    fresh = [{"do": "crates", "crates": crates}] + [{"do": "set file", "file": file, "unit": unit} for file, unit in files.items()]
     fresh += [{"do": "set block", "at": json.loads(place), "unit": unit} for place, unit in blocks.items()]
     fresh += [entry(key, found) for key, found in entries.items()]
     last = [{"do": "refresh"}] + asks

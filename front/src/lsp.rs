@@ -19,7 +19,7 @@ mod uri;
 use std::collections::{BTreeMap, HashMap, HashSet, VecDeque};
 use std::io::{BufReader, Read, Write};
 use std::panic::{catch_unwind, AssertUnwindSafe};
-use std::path::PathBuf;
+use std::path::{Path, PathBuf};
 use std::sync::mpsc::{channel, Receiver, RecvTimeoutError, Sender};
 use std::sync::Arc;
 use std::time::{Duration, Instant};
@@ -30,7 +30,7 @@ use serde_json::{json, Value};
 use crate::package::Wanted;
 use crate::report::Place;
 use crate::token::{Position, Span, SyntaxError};
-use crate::workspace::{key_of, path_of_key, Key, Workspace};
+use crate::workspace::{key_of, path_of_key, Key, Parsed, Workspace};
 use message::{error, notification, reply};
 use text::Text;
 use uri::{key_of_path, key_of_uri, path_of_uri, uri_of_path};
@@ -118,8 +118,8 @@ struct Document {
     /// The text from which the items of the file were read.
     good: Option<Arc<Text>>,
     is_dirty: bool,
-    /// Whether the text is handed in when something is asked, or when nothing comes for a while.
-    waits: bool,
+    /// What stands in the text, where that is handed in when something is asked or when nothing comes for a while.
+    waits: Option<Parsed>,
 }
 
 struct Server<W: Write> {
@@ -160,6 +160,9 @@ const PAUSE: Duration = Duration::from_millis(200);
 
 /// More often than this, within a minute or for the same work, the program isn't started again.
 const MOST_RESTARTS: usize = 3;
+
+/// What is told of a file that was there and is there.
+const FILE_CHANGED: u32 = 2;
 
 const ERROR: u32 = 1;
 const WARNING: u32 = 2;
@@ -202,7 +205,7 @@ impl<W: Write> Server<W> {
 
     /// Waits for the next event, and hands in what waits if none comes for a while.
     fn next_event(&mut self) -> Result<Option<Event>> {
-        if self.documents.values().any(|it| it.waits) {
+        if self.documents.values().any(|it| it.waits.is_some()) {
             match self.events.recv_timeout(PAUSE) {
                 Err(RecvTimeoutError::Timeout) => self.guarded(|it| it.flush(false))?,
                 it => return Ok(it.ok()),
@@ -230,7 +233,9 @@ impl<W: Write> Server<W> {
         let mut at = 0;
         while at < queue.len() {
             let id = match &queue[at] {
-                message::Read::Message(it) if it["method"] == "$/cancelRequest" => it["params"]["id"].clone(),
+                message::Read::Message(it) if it["method"] == "$/cancelRequest" && it.get("id").is_none() => {
+                    it["params"]["id"].clone()
+                }
                 _ => {
                     at += 1;
                     continue;
@@ -288,7 +293,7 @@ impl<W: Write> Server<W> {
                     self.space = None;
                 }
                 // It may be one of these texts that can't be read. The next edit tries again.
-                self.documents.values_mut().for_each(|it| (it.is_dirty, it.waits) = (false, false));
+                self.documents.values_mut().for_each(|it| (it.is_dirty, it.waits) = (false, None));
                 Ok(None)
             }
         }
@@ -323,7 +328,10 @@ impl<W: Write> Server<W> {
             "textDocument/definition" => self.flushed()?.definition(params)?,
             "textDocument/hover" => self.flushed()?.hover(params)?,
             "textDocument/references" => self.flushed()?.references(params)?,
-            "textDocument/documentSymbol" => self.flushed()?.symbols(params),
+            "textDocument/documentSymbol" => {
+                self.flush(true)?;
+                self.symbols(params)
+            }
             "textDocument/codeAction" => self.flushed()?.code_actions(params)?,
             "workspace/symbol" => Ok(self.flushed()?.found_symbols(params)),
             "textDocument/completion" => self.flushed()?.completion(params)?,
@@ -413,7 +421,7 @@ impl<W: Write> Server<W> {
         let is_known = self.space.as_ref().is_some_and(|it| it.built(&key).is_some());
         let good = is_known.then(|| self.unit_text(&key));
         self.texts.remove(&key);
-        let document = Document { uri: uri.to_owned(), text, good, is_dirty: true, waits: false };
+        let document = Document { uri: uri.to_owned(), text, good, is_dirty: true, waits: None };
         self.documents.insert(key.clone(), document);
         self.needs_report |= self.is_renamed(&key);
         match self.space.is_none() && self.package().is_none() {
@@ -456,17 +464,34 @@ impl<W: Write> Server<W> {
     /// Reads files that changed on the disk, or the whole package where a manifest did.
     fn read_changed_files(&mut self, changes: &Value) -> Result<()> {
         let changes = changes.as_array().into_iter().flatten();
-        let mut paths: Vec<PathBuf> = changes.filter_map(|it| path_of_uri(it["uri"].as_str()?)).collect();
+        let named = changes.filter_map(|it| Some((path_of_uri(it["uri"].as_str()?)?, it["type"] == FILE_CHANGED)));
+        let mut paths: Vec<(PathBuf, bool)> = named.collect();
         // What Cargo builds there is none of the package.
         let target = self.space.as_ref().map(|it| it.crates.folder.join("target"));
-        paths.retain(|it| !target.as_ref().is_some_and(|target| it.starts_with(target)));
-        let is_manifest = |it: &PathBuf| it.file_name().is_some_and(|it| it == "Cargo.toml" || it == "Cargo.lock");
-        if paths.iter().any(is_manifest) {
+        paths.retain(|it| !target.as_ref().is_some_and(|target| it.0.starts_with(target)));
+        let is_manifest = |it: &Path| it.file_name().is_some_and(|it| it == "Cargo.toml" || it == "Cargo.lock");
+        if paths.iter().any(|it| is_manifest(&it.0)) {
             return self.open();
         }
-        let is_read = |key: &Key| self.space.as_ref().is_some_and(|it| it.reads(&path_of_key(key)));
-        let is_due = |key: &Key| is_read(key) && !self.documents.contains_key(key);
-        let keys: Vec<Key> = paths.iter().filter_map(|it| key_of_path(it)).filter(is_due).collect();
+        let Some(space) = &self.space else {
+            self.texts.clear();
+            return Ok(());
+        };
+        let mut keys: Vec<Key> = Vec::new();
+        for (path, is_same_file) in &paths {
+            let Some(key) = key_of_path(path) else {
+                continue;
+            };
+            if space.reads(&path_of_key(&key)) {
+                keys.push(key);
+            } else if !is_same_file {
+                // Of a folder that comes or goes its files may not be told.
+                keys.extend(space.files_below(&key));
+            }
+        }
+        keys.retain(|it| !self.documents.contains_key(it));
+        keys.sort();
+        keys.dedup();
         self.read_files(&keys)
     }
 

@@ -267,7 +267,8 @@ impl Crates {
         }
         command.other_options(words);
         let metadata = metadata_of(&command, &manifest, wanted, &toolchain, &keeper).map_err(|text| {
-            let hint = if wanted.online { "" } else { "\n--online lets Cargo fetch what isn't there" };
+            let is_offline = !wanted.online && text.contains("offline");
+            let hint = if is_offline { "\n--online lets Cargo fetch what isn't there" } else { "" };
             anyhow::anyhow!("Cargo can't resolve {}:\n{}{hint}", manifest.display(), text.trim())
         })?;
         let mut crates = Crates { folder: metadata.workspace_root.clone().into_std_path_buf(), ..Crates::default() };

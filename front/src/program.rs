@@ -124,7 +124,8 @@ impl Program {
                 }
                 let _ = input.flush();
             });
-            let fault = lines.iter().find_map(|_| read_reply(output, &read).map(|it| replies.push(it)).err());
+            let next = |_| read_reply(output, MOST_OF_REPLY, &read).map(|it| replies.push(it)).err();
+            let fault = lines.iter().find_map(next);
             if fault.is_some() {
                 // It may read no further, so that the rest can't be written.
                 let _ = child.kill();
@@ -173,17 +174,19 @@ impl Program {
     }
 }
 
-/// What is made of the next line, or the line of which nothing is; without a line nothing comes any more.
+/// What is made of the next line, or the line of which nothing is, as of one of so many bytes; without a line nothing comes
+/// any more.
 fn read_reply<T>(
     output: &mut impl BufRead,
+    most: u64,
     read: impl Fn(&str) -> Option<T>,
 ) -> std::result::Result<T, Option<String>> {
     let mut bytes = Vec::new();
-    match output.take(MOST_OF_REPLY).read_until(b'\n', &mut bytes) {
+    match output.take(most).read_until(b'\n', &mut bytes) {
         Ok(0) | Err(_) => return Err(None),
         Ok(_) => {}
     }
-    let text = std::str::from_utf8(&bytes).ok().filter(|it| (it.len() as u64) < MOST_OF_REPLY);
+    let text = std::str::from_utf8(&bytes).ok().filter(|it| (it.len() as u64) < most);
     text.and_then(read).ok_or_else(|| Some(String::from_utf8_lossy(&bytes[..bytes.len().min(1000)]).into_owned()))
 }
 
@@ -201,5 +204,27 @@ fn reply_in(text: &str) -> Option<Value> {
 impl Drop for Program {
     fn drop(&mut self) {
         self.end();
+    }
+}
+
+#[cfg(test)]
+mod tests {
+    use super::*;
+
+    #[test]
+    fn replies_and_what_is_none() {
+        let reply = |mut output: &[u8]| read_reply(&mut output, 8, |it| Some(it.to_owned()).filter(|it| it != "no\n"));
+        let line = |it: &str| Ok(it.to_owned());
+        let none = |it: &str| Err(Some(it.to_owned()));
+        assert_eq!(reply(b"1234\n5678\n"), line("1234\n"));
+        assert_eq!(reply(b"123456\n"), line("123456\n"));
+        assert_eq!(reply(b"1234"), line("1234"));
+        assert_eq!(reply(b""), Err(None));
+        assert_eq!(reply(b"no\n"), none("no\n"));
+        assert_eq!(reply(b"1\xff\n"), none("1\u{fffd}\n"));
+        // Of a line that is too long no more is read.
+        assert_eq!(reply(b"1234567\n"), none("1234567\n"));
+        let mut endless = BufReader::new(std::io::repeat(b'x'));
+        assert_eq!(read_reply(&mut endless, 8, |it| Some(it.to_owned())), none("xxxxxxxx"));
     }
 }

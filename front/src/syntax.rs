@@ -292,6 +292,17 @@ impl Item {
         self.name.as_ref().map_or("", |it| &it.text)
     }
 
+    /// The items in it, but for those in its blocks.
+    pub fn inner(&self) -> &[Item] {
+        match &self.kind {
+            ItemKind::Module(Some(inner))
+            | ItemKind::Trait(inner)
+            | ItemKind::Impl { items: inner, .. }
+            | ItemKind::ExternBlock(inner) => inner,
+            _ => &[],
+        }
+    }
+
     /// Whether a position of the file is in it; in an expansion, whether the call was given there what became of it.
     pub fn contains(&self, at: Position) -> bool {
         self.span.contains(at) || self.given.iter().any(|it| it.contains(at))

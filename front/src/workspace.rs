@@ -8,6 +8,7 @@ mod files;
 mod hand_in;
 mod left_out;
 mod looked_at;
+mod looked_up;
 mod names;
 mod places;
 mod recorded;
@@ -43,6 +44,7 @@ use type_names::TypeNames;
 pub type Key = Arc<str>;
 
 /// What stands in a file.
+#[derive(Clone)]
 pub struct Parsed {
     /// Where the file lies.
     pub path: PathBuf,
@@ -58,6 +60,8 @@ pub struct Parsed {
     given: Given,
     /// Whether a walk passes its items over.
     is_plain: bool,
+    /// Whether macro calls are in it: what it is to the program hangs on what these expand to.
+    has_calls: bool,
 }
 
 struct Sent {
@@ -72,6 +76,22 @@ struct Sent {
     left_out: Derives,
     built: Arc<Built>,
     blocks: Vec<BuiltBlock>,
+}
+
+/// What a file of a crate is made into, by what is looked for in it.
+struct Made {
+    key: Key,
+    krate: u32,
+    unit: Arc<Unit>,
+    left_out: Derives,
+    built: Arc<Built>,
+    blocks: Vec<BuiltBlock>,
+}
+
+impl Made {
+    fn is_of(&self, key: &Key, krate: u32, unit: &Arc<Unit>, left_out: Derives) -> bool {
+        self.key == *key && self.krate == krate && Arc::ptr_eq(&self.unit, unit) && self.left_out == left_out
+    }
 }
 
 /// A block that was handed in.
@@ -217,6 +237,8 @@ pub struct Workspace {
     program: Program,
     parsed: HashMap<Key, Arc<Parsed>>,
     sent: HashMap<Key, Sent>,
+    /// What was made of a text without calls that wasn't what its file had: it is handed in next.
+    made: Option<Made>,
     states: Vec<CrateState>,
     cache: HashMap<(u32, Hash), (String, Arc<Expansion>)>,
     moved: Moved,
@@ -305,6 +327,7 @@ impl Workspace {
             program,
             parsed: HashMap::new(),
             sent: HashMap::new(),
+            made: None,
             states,
             cache: HashMap::new(),
             moved: Moved::default(),

@@ -92,24 +92,25 @@ const B: &str = "pub use crate::one as chosen;\npub use crate::a::k::*;\n";
 
 /// Each edit of what is behind the texts above, and how often the program resolves behind it, 2 standing for more often
 /// than once too.
-const EDITS: [(&str, &str, &str, usize); 31] = [
+const EDITS: [(&str, &str, &str, usize); 32] = [
     // Items that nothing names.
     ("src/a.rs", "", "pub fn more() {}\n", 0),
     ("src/a.rs", "pub fn f() {}", "pub fn f() { more(); } const N: usize = 1;", 0),
     ("src/a.rs", "pub struct Later;", "pub struct Later; enum Side { Left, Right(u8) } pub trait Trait { fn f(); }", 0),
     ("src/a.rs", "pub struct Deep;", "pub struct Other(pub u8); pub(crate) type Alias = u8;", 0),
     ("src/b.rs", "pub use", "fn before() {}\npub use", 0),
+    // Nor another of their name.
+    ("src/a.rs", "", "pub struct M;\n", 0),
+    ("src/b.rs", "", "pub struct Deep;\n", 0),
     // Others.
     ("src/a.rs", "", "use crate::M; pub use self::k::Deep as Here; pub struct S(u8, pub u16);\n", 1),
     ("src/a.rs", "pub fn f() {}", "pub const f: u8 = 1;", 1),
     ("src/a.rs", "pub fn f() {}\npub struct Later;", "pub struct Later;\npub fn f() {}", 1),
     ("src/a.rs", "", "pub enum E { A } use self::E::A;\n", 1),
     ("src/a.rs", "", "pub struct chosen;\n", 1),
-    ("src/a.rs", "", "pub struct M;\n", 1),
     ("src/a.rs", "", "pub enum E { Later }\n", 1),
     ("src/a.rs", "", "#[cfg(all())] fn conditional() {}\n", 1),
     ("src/a.rs", "", "#[derive(Clone)] pub struct T; #[inline] fn g() {}\n", 0),
-    ("src/b.rs", "", "pub struct Deep;\n", 1),
     ("src/lib.rs", "use crate::a::Later as _;", "pub struct Later; use crate::b::Deep as D;", 1),
     // An error.
     ("src/a.rs", "", "use crate::nothing;\n", 2),
@@ -118,13 +119,15 @@ const EDITS: [(&str, &str, &str, usize); 31] = [
     ("src/a.rs", "", "fn {\n", 2),
     ("src/a.rs", "", "use u8::nothing;\n", 2),
     ("src/a.rs", "", "pub struct k2; mod x { use super::k2::y; }\n", 2),
-    // What a walk looks at: modules, macros, calls, blocks, attributes that may be macros, globs.
+    // Where all names are resolved a glob changes none of what is told.
+    ("src/b.rs", "", "use crate::*;\n", 1),
+    ("src/b.rs", "pub use crate::a::k::*;", "", 1),
+    // What a walk looks at: modules, macros, calls, blocks, attributes that may be macros.
     ("src/a.rs", "", "pub mod l {}\n", 2),
     ("src/a.rs", "", "macro_rules! n { () => {} }\n", 2),
     ("src/a.rs", "", "m!();\n", 2),
     ("src/a.rs", "pub fn f() {}", "pub fn f() { use crate::M; }", 2),
     ("src/a.rs", "", "use std::fmt as Debug;\n", 2),
-    ("src/b.rs", "", "use crate::*;\n", 2),
     // Another macro is reached.
     ("src/b.rs", "crate::one", "crate::two", 2),
     ("src/b.rs", "pub use crate::one as chosen;", "pub use crate::a::chosen;", 2),
@@ -158,6 +161,52 @@ fn items_that_a_crate_above_names() {
     for (text, resolved) in [("pub struct S;\n", 0), ("pub struct T;\n", 2), (both, 0), ("struct S;\nstruct U;\n", 1)] {
         package.write("src/lib.rs", text);
         assert_eq!(package.resolved(text).min(2), resolved, "{text}");
+    }
+}
+
+/// Where a name isn't judged that isn't found, a glob may change that.
+#[test]
+fn globs_where_something_is_not_judged() {
+    let texts = [("src/lib.rs", "mod a;\nuse std::none::Such;\n"), ("src/a.rs", "pub struct S;\n")];
+    let package = Checked::new(package(&texts), "");
+    assert_eq!(package.check().0[0]["unjudged"], 1);
+    for (text, resolved) in [("pub struct S;\nuse crate::a::S as T;\n", 1), ("pub struct S;\nuse crate::*;\n", 2)] {
+        package.write("src/a.rs", text);
+        assert_eq!(package.resolved(text).min(2), resolved, "{text}");
+    }
+}
+
+/// What nothing names is left out of what is handed in again, until an edit names it.
+#[test]
+fn items_that_are_left_out() {
+    let folder = market();
+    let below = folder.path().join("codec/src/lib.rs");
+    let more = "pub fn spare() {}\npub use self::spare as other;\npub mod inner { pub enum Deep { Variant } }\npub use inner::*;\n";
+    std::fs::write(&below, format!("{}{more}", read(&below))).unwrap();
+    let package = Checked::new(folder, "shop");
+    let report = read(&package.within.join("src/report.rs"));
+    package.write("src/report.rs", &report.replace(", Rebate", ""));
+    let price = read(&package.within.join("src/price.rs"));
+    package.check();
+    for (more, resolved, is_given) in [
+        ("use crate::model::Order;", 1, false),
+        ("use codec::spare;", 1, true),
+        ("use codec::other;", 1, true),
+        ("use codec::inner::Deep::Variant;", 1, true),
+        ("use codec::Deep;", 1, true),
+        ("use crate::price::tax as Deep;", 1, true),
+        ("pub fn spare() {} enum Deep { other }", 0, false),
+        ("use codec::Variant;", 2, true),
+        ("use codec::sparer;", 2, true),
+    ] {
+        package.write("src/price.rs", &format!("{price}{more}\n"));
+        package.check();
+        let given = read(&package.folder.path().join("program.log"));
+        assert_eq!(given.contains("\"spare\""), is_given, "{more}");
+        package.write("src/price.rs", &price);
+        package.check();
+        package.write("src/price.rs", &format!("{price}// Again.\n{more}\n"));
+        assert_eq!(package.resolved(more).min(2), resolved, "{more}");
     }
 }
 

@@ -190,11 +190,12 @@ fn what_was_told_is_kept() {
         ("src/lib.rs", &edited("1;", "let x = [1, 2]; f(x.len());"), false),
         ("src/lib.rs", &edited("mod a;", "// A module.\n\n/// It.\nmod a;"), false),
         ("src/a.rs", "pub fn f() { let x = 1; }\n", false),
-        // An item more that nothing names.
+        // An item more that nothing names, nor another of its name.
         ("src/a.rs", "pub fn f() {}\npub fn more() {}\n", false),
-        // Items: one of another's name more, another macro, what one is called with, an item in a body, what has another
-        // condition.
-        ("src/a.rs", "pub fn f() {}\npub fn g() {}\n", true),
+        ("src/a.rs", "pub fn f() {}\npub fn g() {}\n", false),
+        // Items: one more of a name that is looked up, another macro, what one is called with, an item in a body, what has
+        // another condition.
+        ("src/a.rs", "pub fn f() {}\npub fn m() {}\n", true),
         ("src/lib.rs", &edited("struct M", "struct N"), true),
         ("src/lib.rs", &edited("m!()", "m! {}"), true),
         ("src/lib.rs", &edited("1;", "use a::f as h; h();"), true),

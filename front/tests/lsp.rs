@@ -209,6 +209,36 @@ fn edits_and_files() {
 }
 
 #[test]
+fn packages_of_a_workspace() {
+    assert_eq!(run("packages"), 1);
+}
+
+#[test]
+fn a_package_without_a_target() {
+    assert_eq!(run("no_target"), 1);
+}
+
+#[test]
+fn manifests_that_are_damaged_and_mended() {
+    assert_eq!(run("manifest"), 1);
+}
+
+#[test]
+fn files_that_vanish() {
+    assert_eq!(run("vanishing"), 1);
+}
+
+#[test]
+fn ranges_outside_of_the_text() {
+    assert_eq!(run("ranges"), 1);
+}
+
+#[test]
+fn ids_and_methods_of_any_form() {
+    assert_eq!(run("ids"), 1);
+}
+
+#[test]
 fn text_outside_ascii() {
     assert_eq!(run("utf16"), 1);
 }

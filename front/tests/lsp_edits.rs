@@ -385,6 +385,18 @@ fn files_that_change_together() {
     assert_eq!(client.end(), 1);
 }
 
+/// Takes a gate away when that is said, or after a minute: where the editor is slow, what waits is handed in meanwhile.
+#[cfg(unix)]
+fn opened_later(gate: &Path) -> std::sync::mpsc::Sender<()> {
+    let (send, receive) = std::sync::mpsc::channel();
+    let gate = gate.to_owned();
+    std::thread::spawn(move || {
+        let _ = receive.recv_timeout(std::time::Duration::from_secs(60));
+        std::fs::remove_file(gate).unwrap();
+    });
+    send
+}
+
 /// Items that nothing names: what is told is published at its new place before the program has them, and what is asked
 /// afterwards is answered with them.
 #[cfg(unix)]
@@ -407,10 +419,19 @@ fn items_that_nothing_names_wait() {
         message::notification("textDocument/didChange", params)
     };
     std::fs::write(&gate, "").unwrap();
-    client.send(&insert("lib.rs", 1, "pub fn added() {}\n"));
+    // The symbols of the file are those of the text, which the program isn't asked for.
+    let document = json!({"textDocument": {"uri": uri("lib.rs")}});
+    let asked = json!({"jsonrpc": "2.0", "id": 1, "method": "textDocument/documentSymbol", "params": document});
+    let opened = opened_later(&gate);
+    client.send_all(&[insert("lib.rs", 1, "pub fn added() {}\n"), asked]);
+    let received = client.receive_to(|it| it["id"] == 1);
     let is_moved = |it: &Value| it["params"]["diagnostics"][0]["range"]["start"]["line"] == 2;
-    client.receive_to(is_moved);
-    std::fs::remove_file(&gate).unwrap();
+    assert!(received.iter().any(is_moved), "{received:?}");
+    let symbols = received.last().unwrap()["result"].as_array().unwrap();
+    let added = symbols.iter().find(|it| it["name"] == "added").unwrap();
+    let range = json!({"start": {"line": 1, "character": 0}, "end": {"line": 1, "character": 17}});
+    assert_eq!(added["location"]["range"], range);
+    let _ = opened.send(());
     let hover = client.at("textDocument/hover", "src/lib.rs", (1, 8));
     assert!(hover["contents"]["value"].as_str().unwrap().starts_with("function `one::added`"), "{hover}");
     client.send(&insert("a.rs", 1, "pub enum Kind { One }\n"));

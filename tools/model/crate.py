@@ -185,6 +185,9 @@ class Crate:
         self.imports, self.calls, self.edges, self.diagnostics, self.asked, self.modules = [], [], [], [], {}, []
         self.helpers, self.derived, self.exported = {}, [], []
 
+        for number in {self.number} | self.transitive:
+            self.ask(("config", number))
+
     def root_text(self):
         return {"crate": self.number, "kind": "CrateRoot"}
 

@@ -8,8 +8,7 @@ RESERVED = set(
 )
 
 
-def dump(value):
-    return json.dumps(value, separators=(",", ":"), sort_keys=True, ensure_ascii=False)
+dump = json.JSONEncoder(separators=(",", ":"), sort_keys=True, ensure_ascii=False).encode
 
 
 def parse_path(text):
@@ -75,6 +74,29 @@ def print_condition(condition):
     return "%s(%s)" % (form, ", ".join(print_condition(part) for part in parts))
 
 
+def plain_condition(condition):
+    """A condition without what isn't looked at."""
+    if not isinstance(condition, dict):
+        return condition
+    if "key" in condition:
+        return {"key": condition["key"], "value": condition["value"]}
+    form = next(form for form in ("all", "any", "not") if form in condition)
+    return {form: plain_condition(condition["not"]) if form == "not" else [plain_condition(part) for part in condition[form]]}
+
+
+def plain_attribute(attr):
+    """An attribute without what isn't looked at: two that are alike are one value."""
+    path = attr["path"]
+    if path in ("cfg", "cfg_attr"):
+        inner = [plain_attribute(inner) for inner in attr["attrs"]] if path == "cfg_attr" else None
+        return [path, plain_condition(attr["cfg"]), inner]
+    if "derive" in attr:
+        return [path, attr["derive"], attr.get("helpers", [])]
+    form = next((form for form in ("literal", "paths", "tokens") if form in attr), None)
+    texts = None if form is None else attr[form] if form != "paths" else [parse_path(inner) for inner in attr["paths"]]
+    return [parse_path(path), form, texts]
+
+
 def count(attrs):
     """How many attributes there are, with those that a `cfg_attr` holds."""
     return sum(1 + count(attr["attrs"] if attr["path"] == "cfg_attr" else []) for attr in attrs)
@@ -98,6 +120,12 @@ def collect(attrs, options, number=0):
     return kept, []
 
 
+def kept_attributes(attrs, options):
+    """What `collect` gives, without what isn't looked at."""
+    kept, false = collect(attrs, options)
+    return [[attr["number"], plain_attribute(attr)] for attr in kept], [plain_condition(condition) for condition in false]
+
+
 def leaves(tree):
     """The imports of a use tree: place, path, kind, alias."""
     found, count = [], [0]
@@ -110,8 +138,8 @@ def leaves(tree):
             return (prefix[0], prefix[1] + names), "plain"
         if kind == 0 and not names:
             return prefix, "types"
-        # behind a prefix of `super`s alone, further ones count
-        if isinstance(kind, int) and kind > 0 and isinstance(prefix[0], int) and not prefix[1]:
+        # behind a prefix of `super`s alone, further ones count, to 255 levels
+        if isinstance(kind, int) and kind > 0 and isinstance(prefix[0], int) and not prefix[1] and prefix[0] + kind < 256:
             return (prefix[0] + kind, names), "plain"
         return None
 

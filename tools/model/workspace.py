@@ -2,7 +2,7 @@
 import posixpath
 
 from model.crate import KINDS, Block, Crate, Item, place_text
-from model.syntax import collect, dump, parse_path
+from model.syntax import collect, dump, kept_attributes, parse_path, plain_attribute, plain_condition
 
 
 class Workspace:
@@ -40,13 +40,15 @@ class Workspace:
         if kind == "entry":
             entry = self.entries.get(key[1])
             return (False, None) if entry is None else (True, entry[1])
+        if kind == "config":
+            return self.config(key[1])
         krate, source, rest = self.crates[key[1]], key[2:4], key[4:]
         options = {dump(option) for option in krate.get("cfg", [])}
         if kind == "tree":
             unit = self.unit(source)
             whole = unit if isinstance(unit, dict) else {}
             front = krate.get("attrs", []) if source == ("file", krate["root"]) else []
-            top = collect(front + whole.get("attrs", []), options)
+            top = kept_attributes(front + whole.get("attrs", []), options)
             return unit is not None, dump([top, self.kept(whole.get("nodes", []), options)])
         wanted = rest[-1]
         for node in self.nodes(source):
@@ -65,12 +67,20 @@ class Workspace:
         found = []
         for node in nodes:
             left = {name: value for name, value in node.items() if name not in ("body", "variants", "text", "input", "items")}
-            left["attrs"] = collect(node.get("attrs", []), options)
+            left["attrs"] = kept_attributes(node.get("attrs", []), options)
             left.setdefault("vis", None)
             if "nodes" in left:
                 left["nodes"] = self.kept(left["nodes"], options)
             found.append(left)
         return found
+
+    def config(self, number):
+        """What of a crate may be edited: its options as a set, all else as it is listed."""
+        krate = self.crates[number]
+        options = frozenset(dump(plain_condition(option)) for option in krate.get("cfg", []))
+        attrs = [plain_attribute(attr) for attr in krate.get("attrs", [])]
+        dependencies = [[dependency["crate"], dependency["name"], dependency.get("prelude", True)] for dependency in krate.get("deps", [])]
+        return krate["edition"], options, dump(attrs), dump(dependencies)
 
     # ---- edits
 
@@ -85,6 +95,17 @@ class Workspace:
         for place in sorted(self.block_maps, key=len):
             if not self.is_kept(self.block_maps[place].holder.map):
                 del self.block_maps[place]
+
+    def set_crate(self, number, to):
+        """Gives a crate other data; of what is handed in the root file and `proc_macro` don't count."""
+        if number >= len(self.crates):
+            return {"error": "unknown crate"}
+        if is_out_of_order(number, to):
+            return {"crate": number, "error": "dependency order"}
+        stays = {name: value for name, value in self.crates[number].items() if name in ("root", "proc_macro")}
+        gets = {name: value for name, value in to.items() if name not in ("root", "proc_macro")}
+        self.edit(lambda: self.crates.__setitem__(number, {**gets, **stays}))
+        return {"ok": None}
 
     def is_kept(self, map_):
         if map_.holder is None:
@@ -164,8 +185,13 @@ class Workspace:
         """The reply to a command, or None where the model has none."""
         do = command.get("do")
         if do == "crates":
+            late = next((number for number, krate in enumerate(command["crates"]) if is_out_of_order(number, krate)), None)
+            if late is not None:
+                return {"crate": late, "error": "dependency order"}
             self.crates = [{**krate, "root": fold(krate["root"])} for krate in command["crates"]]
             return {"ok": None}
+        if do == "set crate":
+            return self.set_crate(command["crate"], command["to"])
         if do in ("set file", "remove file"):
             file = fold(command["file"])
             if do == "set file":
@@ -212,6 +238,11 @@ class Workspace:
                 return {"ok": krate.diagnostics}
             return {"ok": [place for place in (module.place() for module in krate.modules) if place is not None]}
         return None
+
+
+def is_out_of_order(number, krate):
+    """Whether a crate would depend on one that doesn't come before it."""
+    return any(dependency["crate"] >= number for dependency in krate.get("deps", []))
 
 
 def fold(file):

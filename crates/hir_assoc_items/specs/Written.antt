@@ -6,7 +6,8 @@ use Rattle.hir_collector_rules.specs.HirIds.declared.ast_id.AstId.{AstId}
 use Rattle.hir_collector_rules.specs.HirIds.declared.ast_id.AstKind.{AstKind}
 use Rattle.hir_collector_rules.specs.HirIds.declared.ast_id.SyntaxId.{SyntaxId}
 use Rattle.hir_collector_rules.specs.HirIds.declared.ast_id.AstKind.TheVariants as nodes
-use Rattle.hir_collector_rules.specs.HirItemTree.KeptForest.{Leaf, function, constant, type_alias, macro_call, KeptItem, leaf, holder, KeptForest, no_items, item}
+use Rattle.hir_collector_rules.specs.HirItemTree.KeptForest.{Leaf, function, constant, type_alias, macro_call}
+use Rattle.hir_collector_rules.specs.HirItemTree.KeptForest.{KeptItem, leaf, holder, KeptForest, no_items, item}
 use Rattle.hir_collector_rules.specs.HirItemTree.Rows.{Content, alone, with_items}
 use Rattle.hir_collector_rules.specs.HirBase.declared.tree_id.TreeId.{TreeId}
 use Rattle.hir_assoc_items.specs.declared.written.AssocKind.{AssocKind}

@@ -20,19 +20,22 @@ use Rattle.hir_attr_resolution.specs.declared.attributes.Visited.{Visited}
 use Rattle.hir_collector_state.specs.HirCollectorRules.declared.site.Site.{Site}
 use Rattle.hir_collector_state.specs.HirCollectorRules.declared.macro_directive.WaitingItem.{WaitingItem}
 use Rattle.hir_collector_state.specs.HirCollectorRules.declared.start.TheConstants.{STEP_LIMIT}
-use Rattle.hir_collector_state.specs.HirCollectorRules.Attributes.{adt_by, adt_of, attr_id, first_looked_up, is_derive, is_passed, item_node, next_among, next_attribute}
+use Rattle.hir_collector_state.specs.HirCollectorRules.Attributes.{adt_by, adt_of, attr_id, first_looked_up, is_derive}
+use Rattle.hir_collector_state.specs.HirCollectorRules.Attributes.{is_passed, item_node, next_among, next_attribute}
 use Rattle.hir_collector_state.specs.HirCollectorRules.Calls.{IsNumberedDerive, item_kept}
 use Rattle.hir_collector_state.specs.HirCollectorRules.Derivation.{counted_out, numbered_out}
 use Rattle.hir_collector_state.specs.HirCollectorRules.Invocations.{derive_met, with_invocation, with_noted}
 use Rattle.hir_collector_state.specs.HirCollectorRules.ItemIds.{enum_id, module_id, struct_id, union_id}
 use Rattle.hir_collector_state.specs.HirCollectorRules.Keys.{Environment}
 use Rattle.hir_collector_state.specs.HirCollectorRules.NumberedOut.{IsDeriveNumberedOut, call_out, expansion_out, lacks_derive}
-use Rattle.hir_collector_state.specs.HirCollectorRules.Moves.{HandlesAttribute, LacksDeriveNumber, ListsDerive, Passes, PassesTooFar, TakesDerive, goes_behind, listed, no_paths}
+use Rattle.hir_collector_state.specs.HirCollectorRules.Moves.{HandlesAttribute, LacksDeriveNumber, ListsDerive, Passes}
+use Rattle.hir_collector_state.specs.HirCollectorRules.Moves.{PassesTooFar, TakesDerive, goes_behind, listed, no_paths}
 use Rattle.hir_collector_state.specs.HirCollectorRules.Moves.{no_target}
 use Rattle.hir_attr_resolution.specs.Visiting.{IsVisited}
 use Rattle.hir_collector_state.specs.HirCollectorRules.Reports.{invalid_target, malformed_derive}
 use Rattle.hir_collector_state.specs.HirCollectorRules.State.{Core, State, Task, Visit, visits, counted, joined, visit, behind, with_calls, with_map}
-use Rattle.hir_collector_state.specs.HirCollectorRules.Steps.{HasAttribute, Steps, attribute_at, awaits_attribute, derives_from, faults_derive, lists_derives, none}
+use Rattle.hir_collector_state.specs.HirCollectorRules.Steps.{HasAttribute, Steps, attribute_at, awaits_attribute}
+use Rattle.hir_collector_state.specs.HirCollectorRules.Steps.{derives_from, faults_derive, lists_derives, none}
 use Rattle.hir_collector_state.specs.HirCollectorRules.Steps.{no_paths as lists_none, no_target as is_no_target}
 use Rattle.hir_collector_state.proofs.HirCollectorRules.Changes.{id-Steps}
 use Rattle.hir_collector_state.proofs.HirCollectorRules.Lists.{drop_some}

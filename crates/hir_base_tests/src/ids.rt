@@ -4,9 +4,9 @@ use hir_base::ast_id::{AttrId, BlockId, EditionedFileId, FileId, HirFileId, Synt
 use hir_base::builtin_type::{BuiltinInt, BuiltinType};
 use hir_base::edition::Edition;
 use hir_base::ids::{
-    AdtId, AssocItemId, ConstId, Crate, EnumId, EnumVariantId, ExternBlockId, FunctionId,
-    HasModule, ImplId, ItemContainerId, ItemLoc, Lookup, MapId, ModuleDefId, ModuleId, StaticId,
-    StructId, TraitId, TypeAliasId,
+    AdtId, AssocItemId, ConstId, Crate, EnumId, EnumVariantId, ExternBlockId, ExternCrateId,
+    FunctionId, HasModule, ImplId, ItemContainerId, ItemLoc, Lookup, MapId, ModuleDefId, ModuleId,
+    StaticId, StructId, TraitId, TypeAliasId, UnionId, UseId,
 };
 use hir_base::macro_kind::{
     BuiltinDeriveImplId, Macro2Id, MacroCallStyles, MacroExpander, MacroId, MacroLoc, MacroRulesId,
@@ -188,6 +188,51 @@ fn roots_of_maps(rt: HostRuntime) {
     assert!(rt; root.index == 0);
 }
 
+fn is_where_it_is(rt: &impl Abort, label: &str, loc: ItemLoc<ModuleId>) {
+    assert!(rt; loc == IN_MODULE, "{label}");
+}
+
+/// An id of an item that a module alone holds gives back where that is.
+#[test]
+fn locations_of_what_modules_hold(rt: HostRuntime) {
+    let of_struct = StructId { loc: IN_MODULE };
+    let of_union = UnionId { loc: IN_MODULE };
+    let imp = ImplId { loc: IN_MODULE };
+    let block = ExternBlockId { loc: IN_MODULE };
+    is_where_it_is(&rt, "a struct", of_struct.lookup());
+    is_where_it_is(&rt, "a union", of_union.lookup());
+    is_where_it_is(&rt, "an enum", ENUM.lookup());
+    is_where_it_is(&rt, "a trait", TRAIT.lookup());
+    is_where_it_is(&rt, "an impl", imp.lookup());
+    is_where_it_is(&rt, "an extern block", block.lookup());
+}
+
+/// And so does one of an import.
+#[test]
+fn locations_of_imports(rt: HostRuntime) {
+    let import = UseId { loc: IN_MODULE };
+    let krate = ExternCrateId { loc: IN_MODULE };
+    is_where_it_is(&rt, "a use item", import.lookup());
+    is_where_it_is(&rt, "an extern crate", krate.lookup());
+}
+
+/// One of an item that may be in a trait, an impl or an extern block, and of a variant.
+#[test]
+fn locations_of_what_others_hold(rt: HostRuntime) {
+    let loc = held_by(ItemContainerId::TraitId(TRAIT));
+    let constant = ConstId { loc };
+    let fixed = StaticId { loc };
+    let alias = TypeAliasId { loc };
+    assert!(rt; constant.lookup() == loc, "a constant");
+    assert!(rt; fixed.lookup() == loc, "a static");
+    assert!(rt; alias.lookup() == loc, "an alias");
+    let variant = EnumVariantId {
+        parent: ENUM,
+        id: NODE,
+    };
+    assert!(rt; variant.lookup() == variant, "a variant");
+}
+
 /// What expands a macro, and whether it may be called as a function's, an attribute's and a derive's.
 const STYLES: [(MacroExpander, bool, bool, bool); 6] = [
     (
@@ -243,6 +288,25 @@ fn styles_of_procedural_macros(rt: HostRuntime) {
     for &(style, bang, attr, derive) in &PROC_STYLES {
         has_styles(&rt, proc_macro(style), bang, attr, derive);
     }
+}
+
+/// A macro's id gives back where it is and what expands it, a procedural one's its style.
+#[test]
+fn locations_of_macros(rt: HostRuntime) {
+    let loc = location(MacroExpander::BuiltinEager);
+    let rules = MacroRulesId { loc };
+    let item = Macro2Id { loc };
+    assert!(rt; rules.lookup() == loc, "macro_rules");
+    assert!(rt; item.lookup() == loc, "macro");
+    let of_function = ProcMacroLoc {
+        container: MODULE,
+        file_id: FILE,
+        block: None,
+        id: NODE,
+        style: ProcMacroStyle::Attr,
+    };
+    let procedural = ProcMacroId { loc: of_function };
+    assert!(rt; procedural.lookup() == of_function, "a procedural macro");
 }
 
 /// The impl of a builtin derive lies in the module of its type.

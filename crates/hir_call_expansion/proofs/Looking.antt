@@ -23,9 +23,11 @@ use Rattle.hir_collector_state.specs.HirCollectorRules.declared.macro_directive.
 use Rattle.hir_collector_state.specs.HirCollectorRules.declared.source_database.Key.TheVariants as keys
 use Rattle.hir_collector_state.specs.HirCollectorRules.CallMoves.{SeesCall}
 use Rattle.hir_collector_state.specs.HirCollectorRules.declared.macro_directive.MacroDirectiveKind.TheVariants.{Attr, Derive, FnLike}
-use Rattle.hir_collector_state.specs.HirCollectorRules.Calls.{AreCallsPlaced, Expanding, IsMeantCall, IsNumberedCall, IsTextOf, call_key, call_kind, call_loc, call_style}
+use Rattle.hir_collector_state.specs.HirCollectorRules.Calls.{AreCallsPlaced, Expanding, IsMeantCall, IsNumberedCall}
+use Rattle.hir_collector_state.specs.HirCollectorRules.Calls.{IsTextOf, call_key, call_kind, call_loc, call_style}
 use Rattle.hir_collector_state.specs.HirCollectorRules.Calls.{call_tree, called_text, expansion_of_call, expansion_readings, kind_by, text_readings}
-use Rattle.hir_collector_state.specs.HirCollectorRules.Keys.{Environment, IsMeant, entry_under, environment, input_at, node_tree, of_entry, of_input, of_text, of_tree, source_in}
+use Rattle.hir_collector_state.specs.HirCollectorRules.Keys.{Environment, IsMeant, entry_under, environment, input_at}
+use Rattle.hir_collector_state.specs.HirCollectorRules.Keys.{node_tree, of_entry, of_input, of_text, of_tree, source_in}
 use Rattle.hir_collector_state.specs.HirCollectorRules.Keys.{text_at}
 use Rattle.hir_collector_state.specs.HirCollectorRules.ModuleFiles.{Reading}
 use Rattle.hir_collector_state.specs.HirCollectorRules.Moves.{OnceGrown}

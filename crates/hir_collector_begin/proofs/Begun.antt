@@ -40,7 +40,8 @@ none_visited : (b : Bool) → (if b then no_tasks else no_tasks) ≡ no_tasks
 none_visited true = refl
 none_visited false = refl
 
-module _ (tables : TablesValue) (w : Workspace) (finished : Maps) (transitive : List Crate) (holders : List ModuleId) (start : Start) (id : TreeId) (run : Core) (source : SourceTreeValue)
+module _ (tables : TablesValue) (w : Workspace) (finished : Maps) (transitive : List Crate) (holders : List ModuleId) (start : Start) (id : TreeId)
+    (run : Core) (source : SourceTreeValue)
     (found : source ≡ source_in tables w (tree_key start id)) (is : run ≡ core_of finished source.tree (exports_macros start (crate_in w (krate_of start)))
     (w.config (krate_of start)) transitive holders start id) where
   -- where its number means something, its source is held

@@ -30,7 +30,8 @@ use Rattle.hir_collector_state.specs.HirCollectorRules.declared.site.Site.{Site}
 use Rattle.hir_collector_state.specs.HirCollectorRules.declared.macro_directive.WaitingItem.{WaitingItem}
 use Rattle.hir_collector_state.specs.HirCollectorRules.declared.macro_directive.Fate.TheVariants.{GivenUp, Handled, Waits}
 use Rattle.hir_collector_state.specs.HirCollectorRules.CallMoves.{NoneWaitsBefore, Rested, RestsTooFar, SeesCall, already, moved}
-use Rattle.hir_collector_state.specs.HirCollectorRules.Calls.{DerivedCall, Expanding, IsMeantAt, IsWaiting, LeadsNowhere, call_site, error_of, helpers_brought, helpers_by}
+use Rattle.hir_collector_state.specs.HirCollectorRules.Calls.{DerivedCall, Expanding, IsMeantAt, IsWaiting, LeadsNowhere}
+use Rattle.hir_collector_state.specs.HirCollectorRules.Calls.{call_site, error_of, helpers_brought, helpers_by}
 use Rattle.hir_collector_state.specs.HirCollectorRules.Calls.{helpers_of, item_kept, kept_of, waiting_item}
 use Rattle.hir_collector_state.specs.HirCollectorRules.Changes.{Change, act, helps, perform, with_derived}
 use Rattle.hir_collector_state.specs.HirCollectorRules.Derivation.{IsSpent, counted_out, numbered_out}
@@ -39,10 +40,13 @@ use Rattle.hir_collector_state.specs.HirCollectorRules.ItemIds.{module_id}
 use Rattle.hir_collector_state.specs.HirCollectorRules.Keys.{Environment, environment}
 use Rattle.hir_collector_state.specs.HirCollectorRules.NumberedOut.{LacksExpansion, lacks_call}
 use Rattle.hir_collector_state.specs.HirCollectorRules.Moves.{Makes, OnceGrown, Walks, WalksTooFar}
-use Rattle.hir_collector_state.specs.HirCollectorRules.State.{Core, State, Task, at_rest, behind, counted, import_state, joined, ticked, visit, visits, visits_over, with_fate}
+use Rattle.hir_collector_state.specs.HirCollectorRules.State.{Core, State, Task, at_rest, behind, counted, import_state}
+use Rattle.hir_collector_state.specs.HirCollectorRules.State.{joined, ticked, visit, visits, visits_over, with_fate}
 use Rattle.hir_collector_state.specs.HirCollectorRules.State.{with_map, with_settled}
-use Rattle.hir_collector_state.specs.HirCollectorRules.Steps.{CallsMacro, DerivesBuiltin, Expands, FallsBack, IsDeep, IsQuiet, IsReachedDeep, May, MayRest, Numbered, Rule, Sees}
-use Rattle.hir_collector_state.specs.HirCollectorRules.Steps.{Skips, Step, Steps, bringing, derives_builtin, drops_call, drops_reached, expands_call, failing, falls_back, none}
+use Rattle.hir_collector_state.specs.HirCollectorRules.Steps.{CallsMacro, DerivesBuiltin, Expands, FallsBack, IsDeep, IsQuiet}
+use Rattle.hir_collector_state.specs.HirCollectorRules.Steps.{IsReachedDeep, May, MayRest, Numbered, Rule, Sees}
+use Rattle.hir_collector_state.specs.HirCollectorRules.Steps.{Skips, Step, Steps, bringing, derives_builtin, drops_call}
+use Rattle.hir_collector_state.specs.HirCollectorRules.Steps.{drops_reached, expands_call, failing, falls_back, none}
 use Rattle.hir_collector_state.specs.HirCollectorRules.Steps.{reads, rests, site_behind, skips_attribute, visit_behind}
 use Rattle.hir_collector_state.specs.HirCollectorRules.TreeReads.{visits_at, visits_behind, visits_found}
 use Rattle.hir_collector_state.specs.HirCollectorRules.Workspace.{TreeLook, Workspace}

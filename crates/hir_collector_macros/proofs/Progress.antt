@@ -6,8 +6,10 @@ use Rattle.hir_collector_state.specs.HirBase.Cfg.{Cfg}
 use Rattle.hir_collector_state.specs.HirMapParts.declared.diagnostics.DefDiagnostic.{DefDiagnostic}
 use Rattle.hir_collector_state.specs.HirItemTree.Kinds.{item_head, item_kind}
 use mathlib.Core.Bool.{true≢false}
-use Rattle.hir_collector_state.specs.HirItemTree.KeptForest.{Head, Leaf, KeptItem, extern_block, inline_module, leaf, holder, import, extern_crate, function, structure}
-use Rattle.hir_collector_state.specs.HirItemTree.KeptForest.{union_structure, enumeration, constant, static_item, trait_item, implementation, type_alias, outline_module}
+use Rattle.hir_collector_state.specs.HirItemTree.KeptForest.{Head, Leaf, KeptItem, extern_block, inline_module, leaf}
+use Rattle.hir_collector_state.specs.HirItemTree.KeptForest.{holder, import, extern_crate, function, structure}
+use Rattle.hir_collector_state.specs.HirItemTree.KeptForest.{union_structure, enumeration, constant, static_item, trait_item}
+use Rattle.hir_collector_state.specs.HirItemTree.KeptForest.{implementation, type_alias, outline_module}
 use Rattle.hir_collector_state.specs.HirItemTree.KeptForest.{macro_call, macro_rules, macro_def}
 use Rattle.hir_collector_state.specs.HirDefMapRules.Overlay.{Maps}
 use Rattle.hir_collector_state.specs.HirCollectorRules.declared.exported.Export.{Export}
@@ -17,8 +19,10 @@ use Rattle.hir_collector_state.specs.HirCollectorRules.Keys.{Environment, varian
 use Rattle.hir_collector_state.specs.HirCollectorRules.State.{State, Task, visits, closes}
 use Rattle.hir_collector_state.specs.HirCollectorRules.ItemIds.{enum_id, module_id, node_of}
 use Rattle.hir_collector_state.specs.HirCollectorRules.Reports.{IsUnconfigured}
-use Rattle.hir_collector_state.specs.HirCollectorRules.Steps.{IsNext, behind, drops_item, exports_macro, defines_rules, defines_macro, closes_module, declares_item}
-use Rattle.hir_collector_state.specs.HirCollectorRules.Steps.{declares_enum, lists_constant, lists_impl, opens_module, enters_block, reaches_imports, reaches_crate, reaches_call}
+use Rattle.hir_collector_state.specs.HirCollectorRules.Steps.{IsNext, behind, drops_item, exports_macro, defines_rules}
+use Rattle.hir_collector_state.specs.HirCollectorRules.Steps.{defines_macro, closes_module, declares_item}
+use Rattle.hir_collector_state.specs.HirCollectorRules.Steps.{declares_enum, lists_constant, lists_impl, opens_module, enters_block}
+use Rattle.hir_collector_state.specs.HirCollectorRules.Steps.{reaches_imports, reaches_crate, reaches_call}
 use Rattle.hir_collector_state.specs.HirCollectorRules.Steps.{visit}
 use Rattle.hir_collector_state.proofs.Made.{Goes, goes}
 

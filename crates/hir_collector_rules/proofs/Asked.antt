@@ -17,19 +17,16 @@ use Rattle.hir_nameres.specs.HirDefMapRules.Overlay.{Maps, Placed, holders_of}
 use Rattle.hir_collector_rules.specs.Types.{Key, Start}
 use Rattle.hir_collector_rules.specs.declared.start.Start.TheVariants as starts
 use Rattle.hir_collector_rules.specs.declared.source_database.Key.TheVariants.{Map}
-use Rattle.hir_collector_rules.specs.Workspace.{ConfigValue, TreeLook, seen_of, transitive_by, transitive_dependencies_in}
-use Rattle.hir_collector_rules.specs.Keys.{Environment, Look, of_tree, of_map, of_variants, of_text, of_input, of_entry, absent_source, look, map_key}
-use Rattle.hir_tables.specs.Tables.{KeepsTables}
+use Rattle.hir_collector_rules.specs.Workspace.{ConfigValue, TreeLook, Workspace, seen_of, transitive_dependencies_in}
+use Rattle.hir_collector_rules.specs.Keys.{Environment, Look, of_tree, of_map, of_variants, of_text, of_input, of_entry, of_config, absent_source, look}
+use Rattle.hir_collector_rules.specs.Keys.{config_key, dependency_keys, keys_behind, map_key}
+use Rattle.hir_tables.specs.Tables.{KeepsTables, TablesValue}
 use Rattle.hir_collector_rules.specs.Start.{Beginning, held_keys, holder_keys, holders_by, krate_of, read_by, root_key, root_tree}
+use Rattle.hir_collector_rules.proofs.Dependencies.{same_transitive}
 
 -- ---- lists
 
-pub mapped : {A B : Type 0} (f : A → B) (xs : List A) (x : A) → Contains xs x → Contains (map f xs) (f x)
-mapped f [] x (n, below, is) = absurd (omega arith)
-mapped f (y ∷ ys) x (zero, below, is) = (0, omega arith, ap f is)
-mapped f (y ∷ ys) x (suc n, below, is) = let later = mapped f ys x (n, omega arith, is) in (suc later.0, omega (arith, later.1), later.2)
-
-pub mapped_from : {A B : Type 0} (f : A → B) (xs : List A) (y : B) → Contains (map f xs) y → (x : A) × Contains xs x × (f x ≡ y)
+mapped_from : {A B : Type 0} (f : A → B) (xs : List A) (y : B) → Contains (map f xs) y → (x : A) × Contains xs x × (f x ≡ y)
 mapped_from f [] y (n, below, is) = absurd (omega arith)
 mapped_from f (x ∷ xs) y (zero, below, is) = (x, (0, omega arith, refl), is)
 mapped_from f (x ∷ xs) y (suc n, below, is) =
@@ -40,7 +37,51 @@ pub head_or_later : {A : Type 0} (x : A) (xs : List A) (y : A) → Contains (x �
 head_or_later x xs y (zero, below, is) = inl is
 head_or_later x xs y (suc n, below, is) = inr (n, omega arith, is)
 
--- ---- keys
+-- ---- the keys of crates
+
+-- a key is that of one of some crates
+pub record IsOfOne (key_of : Crate → Key) (crates : List Crate) (key : Key) : Type 0 where
+  pub krate : Crate
+  pub among : Contains crates krate
+  pub is : key ≡ key_of krate
+
+-- the keys of the crates behind a crate are those of the map of each, and of what each was handed in with
+map_key_in : (crates : List Crate) (c : Crate) → Contains crates c → Contains (dependency_keys crates) (map_key c)
+map_key_in [] c (n, within, is) = absurd (omega arith)
+map_key_in (x ∷ xs) c (zero, within, is) = (0, omega arith, ap map_key is)
+map_key_in (x ∷ xs) c (suc n, within, is) = let later = map_key_in xs c (n, omega arith, is) in (suc (suc later.0), omega (arith, later.1), later.2)
+
+config_key_in : (crates : List Crate) (c : Crate) → Contains crates c → Contains (dependency_keys crates) (config_key c)
+config_key_in [] c (n, within, is) = absurd (omega arith)
+config_key_in (x ∷ xs) c (zero, within, is) = (1, omega arith, ap config_key is)
+config_key_in (x ∷ xs) c (suc n, within, is) = let later = config_key_in xs c (n, omega arith, is) in (suc (suc later.0), omega (arith, later.1), later.2)
+
+-- and no other key
+of_dependency : (crates : List Crate) (key : Key) → Contains (dependency_keys crates) key → IsOfOne map_key crates key ⊎ IsOfOne config_key crates key
+of_dependency [] key (n, within, is) = absurd (omega arith)
+of_dependency (x ∷ xs) key (zero, within, is) = inl (record { krate = x; among = (0, omega arith, refl); is = sym is })
+of_dependency (x ∷ xs) key (suc zero, within, is) = inr (record { krate = x; among = (0, omega arith, refl); is = sym is })
+of_dependency (x ∷ xs) key (suc (suc n), within, is) = elim (of_dependency xs key (n, omega arith, is)) [
+  | inl m ↦ inl (record { krate = m.krate; among = (suc m.among.0, omega (arith, m.among.1), m.among.2); is = m.is })
+  | inr m ↦ inr (record { krate = m.krate; among = (suc m.among.0, omega (arith, m.among.1), m.among.2); is = m.is })
+]
+
+module _ (krate : Crate) (transitive : List Crate) where
+  pub map_behind : (c : Crate) → Contains transitive c → Contains (keys_behind krate transitive) (map_key c)
+  map_behind c h = let later = map_key_in transitive c h in (suc later.0, omega (arith, later.1), later.2)
+
+  pub config_behind : (c : Crate) → Contains (krate ∷ transitive) c → Contains (keys_behind krate transitive) (config_key c)
+  config_behind c (zero, within, is) = (0, omega arith, ap config_key is)
+  config_behind c (suc n, within, is) = let later = config_key_in transitive c (n, omega arith, is) in (suc later.0, omega (arith, later.1), later.2)
+
+  pub of_behind : (key : Key) → Contains (keys_behind krate transitive) key → IsOfOne map_key transitive key ⊎ IsOfOne config_key (krate ∷ transitive) key
+  of_behind key (zero, within, is) = inr (record { krate = krate; among = (0, omega arith, refl); is = sym is })
+  of_behind key (suc n, within, is) = elim (of_dependency transitive key (n, omega arith, is)) [
+    | inl m ↦ inl m
+    | inr m ↦ inr (record { krate = m.krate; among = (suc m.among.0, omega (arith, m.among.1), m.among.2); is = m.is })
+  ]
+
+-- ---- the maps that are read
 
 -- whether one of some modules lies in a map
 abbrev pub lies_in : List ModuleId → MapId → Bool
@@ -95,26 +136,53 @@ abbrev seen_map : Look → Option Placed → Option Placed
 seen_map (of_map m) other = m
 seen_map otherwise other = other
 
+-- what a crate was handed in with, as it is seen at its key
+abbrev pub seen_config : Look → Option ConfigValue → Option ConfigValue
+seen_config (of_config c) other = c
+seen_config otherwise other = other
+
+-- where two workspaces have the same at the keys of the crates behind a crate
+module _ (tables grown : TablesValue) (v w : Workspace) (before finished : Maps) (krate : Crate)
+    (same : (key : Key) → Contains (keys_behind krate (transitive_dependencies_in v krate)) key → look grown w finished key ≡ look tables v before key) where
+  -- the crate and those on which it depends were handed in alike
+  pub same_config : (c : Crate) → Contains (krate ∷ transitive_dependencies_in v krate) c → w.config c ≡ v.config c
+  same_config c h =
+      ap (λ (l : Look). seen_config l None) (same (config_key c) (config_behind krate (transitive_dependencies_in v krate) c h))
+
+  -- so it depends on the same
+  pub same_behind : transitive_dependencies_in w krate ≡ transitive_dependencies_in v krate
+  same_behind = same_transitive v.config w.config krate same_config
+
 -- a workspace with its finished maps is like another, where the numbers that the one is spoken of by mean the same to the other
 pub record Alike (keys : List Key) (env : Environment) (before : Maps) (other : Environment) (finished : Maps) : Type 0 where
   pub kept : KeepsTables env.tables other.tables
-  pub config : (krate : Crate) → other.workspace.config krate ≡ env.workspace.config krate
   pub crates : other.workspace.crates ≡ env.workspace.crates
   pub same : (key : Key) → Contains keys key → look other.tables other.workspace finished key ≡ look env.tables env.workspace before key
 
 module _ (from : Beginning) {keys : List Key} {env other : Environment} {before finished : Maps} (alike : Alike keys env before other finished)
     (root_asked : Contains keys (root_key from.start from.tree))
     (held_asked : (key : Key) → Contains (held_keys from.start (holders_by before from.start)) key → Contains keys key)
-    (maps_asked : (krate : Crate) → Contains (transitive_dependencies_in env.workspace (krate_of from.start)) krate → Contains keys (map_key krate)) where
+    (behind_asked : (key : Key) → Contains (keys_behind (krate_of from.start) (transitive_dependencies_in env.workspace (krate_of from.start))) key
+    → Contains keys key) where
+  abbrev behind : List Crate
+  behind = transitive_dependencies_in env.workspace (krate_of from.start)
+
   pub same_tree : root_tree other.tables other.workspace from ≡ root_tree env.tables env.workspace from
   same_tree = ap (λ (l : Look). (seen_tree l (seen_of absent_source)).tree) (alike.same (root_key from.start from.tree) root_asked)
 
-  same_configs : other.workspace.config ≡ env.workspace.config
-  same_configs = λ i krate. alike.config krate i
+  seen_alike : (key : Key) → Contains (keys_behind (krate_of from.start) behind) key → look other.tables other.workspace finished key
+      ≡ look env.tables env.workspace before key
+  seen_alike key h = alike.same key (behind_asked key h)
 
-  -- the crates on which a crate depends are the same
-  pub same_transitive : (krate : Crate) → transitive_dependencies_in other.workspace krate ≡ transitive_dependencies_in env.workspace krate
-  same_transitive krate = ap (λ (config : Crate → Option ConfigValue). transitive_by config krate) same_configs
+  -- its crate was handed in alike
+  pub own_config : other.workspace.config (krate_of from.start) ≡ env.workspace.config (krate_of from.start)
+  own_config =
+      same_config env.tables other.tables env.workspace other.workspace before finished (krate_of from.start) seen_alike (krate_of from.start)
+      (0, omega arith, refl)
+
+  -- the crates on which that depends are the same
+  pub same_dependencies : transitive_dependencies_in other.workspace (krate_of from.start) ≡ behind
+  same_dependencies = same_behind env.tables other.tables env.workspace other.workspace before finished (krate_of from.start) seen_alike
 
   same_at : (id : MapId) → Contains keys (Map id) → finished id ≡ before id
   same_at id h = ap (λ (l : Look). seen_map l None) (alike.same (Map id) h)
@@ -129,20 +197,19 @@ module _ (from : Beginning) {keys : List Key} {env other : Environment} {before 
       go (starts.Block krate block holder at) asked =
           ap (λ (o : Option Placed). holder ∷ holders_of o) (same_at holder.map (asked (Map holder.map) (1, omega arith, refl)))
 
-  same_map : (id : MapId) → is_of_some (transitive_dependencies_in env.workspace (krate_of from.start)) (holders_by before from.start) id ≡ true → finished id
-      ≡ before id
+  same_map : (id : MapId) → is_of_some behind (holders_by before from.start) id ≡ true → finished id ≡ before id
   same_map id h =
-      let transitive : List Crate = transitive_dependencies_in env.workspace (krate_of from.start) in
-      elim (of_some transitive (holders_by before from.start) id h) [
+      elim (of_some behind (holders_by before from.start) id h) [
         | inl own ↦
-            let there : Contains transitive id.krate = Contains-from_any exact_crate id.krate transitive own.0 in
-            subst (λ (k : MapId). finished k ≡ before k) (sym own.1) (same_at (crate_map id.krate) (maps_asked id.krate there))
+            let there : Contains behind id.krate = Contains-from_any exact_crate id.krate behind own.0 in
+            subst (λ (k : MapId). finished k ≡ before k) (sym own.1)
+            (same_at (crate_map id.krate) (behind_asked (map_key id.krate) (map_behind (krate_of from.start) behind id.krate there)))
         | inr held ↦ same_at id (held_asked (Map id) (key_of_held from.start before id held))
       ]
 
   -- the maps that a run reads are the same
   pub same_read : read_by other.workspace finished from.start ≡ read_by env.workspace before from.start
   same_read =
-      ap (λ (crates : List Crate). among crates (holders_by finished from.start) finished) (same_transitive (krate_of from.start))
-      ∙ ap (λ (holders : List ModuleId). among (transitive_dependencies_in env.workspace (krate_of from.start)) holders finished) same_holders
-      ∙ among_agrees (transitive_dependencies_in env.workspace (krate_of from.start)) (holders_by before from.start) finished before same_map
+      ap (λ (crates : List Crate). among crates (holders_by finished from.start) finished) same_dependencies
+      ∙ ap (λ (holders : List ModuleId). among behind holders finished) same_holders
+      ∙ among_agrees behind (holders_by before from.start) finished before same_map

@@ -17,7 +17,8 @@ use Rattle.hir_nameres.specs.HirIds.declared.ids.ModuleId.{ModuleId}
 use Rattle.hir_nameres.specs.HirIds.declared.ids.TraitId.{TraitId}
 use Rattle.hir_nameres.specs.HirPerNs.contracts.imports.ImportOrExternCratePartialEq.TheImpl as item_import
 use Rattle.hir_nameres.specs.HirPerNs.contracts.imports.ImportOrGlobPartialEq.TheImpl as glob_import
-use Rattle.hir_nameres.specs.HirScope.Bindings.{Candidate, macro_candidate, taken, takes, type_candidate, value_candidate, with_item_definition, with_item_visibility}
+use Rattle.hir_nameres.specs.HirScope.Bindings.{Candidate, macro_candidate, taken, takes, type_candidate, value_candidate}
+use Rattle.hir_nameres.specs.HirScope.Bindings.{with_item_definition, with_item_visibility}
 use Rattle.hir_nameres.specs.HirScope.Bindings.{written_items}
 use Rattle.hir_nameres.specs.HirScope.Entries.{item_at}
 use Rattle.hir_nameres.specs.HirScope.Globs.{GlobNames, Place, has_place}

@@ -7,6 +7,7 @@ use Rattle.hir_nameres.specs.HirCrateGraph.CrateSet.{crate_of, crates_from}
 use Rattle.hir_nameres.specs.HirCrateGraph.Dependencies.{is_reached}
 use Rattle.std.proofs.lemmas.List.Elements.{Contains-append_left, Contains-append_right, Contains-append_cases}
 use Rattle.hir_nameres.specs.HirIds.declared.ids.Crate.{Crate}
+use Rattle.hir_nameres.specs.HirIds.declared.ids.MapId.{MapId}
 use Rattle.hir_nameres.specs.HirIds.declared.ids.ModuleId.{ModuleId}
 use Rattle.hir_item_tree.specs.ItemTree.{Tree}
 use Rattle.hir_tables.specs.Tables.{KeepsTables, TablesValue}
@@ -15,8 +16,8 @@ use Rattle.hir_nameres.specs.HirDefMapRules.Overlay.{Maps, map_in}
 use Rattle.hir_collector_rules.specs.Types.{CrateRoot, Dependency, Key, MacroDirective, Start, WaitingItem}
 use Rattle.hir_collector_rules.specs.declared.start.Start.TheVariants as starts
 use Rattle.hir_collector_rules.specs.declared.source_database.Key.TheVariants as keys
-use Rattle.hir_collector_rules.specs.Workspace.{ConfigValue, Workspace, dependencies_of, direct_in, transitive_dependencies_in}
-use Rattle.hir_collector_rules.specs.Keys.{AgreeOn, Environment, environment, look, map_key, map_keys}
+use Rattle.hir_collector_rules.specs.Workspace.{ConfigValue, Workspace, dependencies_of, direct_in, earlier, transitive_dependencies_in}
+use Rattle.hir_collector_rules.specs.Keys.{AgreeOn, Environment, environment, keys_behind, look}
 use Rattle.hir_collector_rules.specs.Calls.{IsWaiting, LeadsNowhere, waiting_item}
 use Rattle.hir_collector_rules.specs.CallMoves.{ComesToRest, NoneWaits, cut_off, rested}
 use Rattle.hir_collector_rules.specs.Rounds as rounds
@@ -39,7 +40,7 @@ use Rattle.hir_collector_rules.proofs.Changes.{asked-Step, data-Steps, id-Steps}
 use Rattle.hir_collector_rules.proofs.InRange.{IsInRange}
 use Rattle.hir_collector_rules.proofs.Holds.{Holds, Holds-start, Holds-Steps, in_range-start}
 use Rattle.hir_collector_rules.proofs.Asks.{IsAskedFor, of_call, of_candidate, of_enum_listed, asked_by, still_asked, still_asked-Step}
-use Rattle.hir_collector_rules.proofs.Asked.{Alike, head_or_later, mapped, mapped_from, same_holders, same_read, same_transitive, same_tree}
+use Rattle.hir_collector_rules.proofs.Asked.{Alike, head_or_later, of_behind, own_config, same_dependencies, same_holders, same_read, same_tree}
 use Rattle.hir_collector_rules.proofs.ModuleFiles.{Numbered-kept}
 use Rattle.hir_collector_rules.proofs.Moves.{Steps-append}
 use Rattle.hir_collector_rules.proofs.Numbers.{tables_stay}
@@ -203,8 +204,10 @@ module _ (tables : TablesValue) (v : Workspace) (before : Maps) (from : Beginnin
   abbrev seen : Maps
   seen = read_by v before from.start
 
-  keys_are : answer.asked ≡ c.asked ++ map_keys transitive
-  keys_are = ap (λ (a : CollectedValue). a.asked) is
+  keys_are : answer.asked ≡ c.asked ++ keys_behind krate transitive
+  keys_are =
+      ap (λ (a : CollectedValue). a.asked) is
+      ∙ ap (λ (own : Crate). c.asked ++ keys_behind own transitive) (ap (λ (id : MapId). id.krate) (id-Steps steps))
 
   ended_id : (core : Core) → (ended core).id ≡ core.map.id
   ended_id core = go core.is_proc_macro
@@ -233,26 +236,24 @@ module _ (tables : TablesValue) (v : Workspace) (before : Maps) (from : Beginnin
 
   -- what the steps asked for is among the keys
   asked_among : (key : Key) → Contains c.asked key → Contains answer.asked key
-  asked_among key h = subst (λ (ks : List Key). Contains ks key) (sym keys_are) (Contains-append_left c.asked (map_keys transitive) key h)
+  asked_among key h = subst (λ (ks : List Key). Contains ks key) (sym keys_are) (Contains-append_left c.asked (keys_behind krate transitive) key h)
 
-  -- so are the tree with which the run begins, the maps of what holds it, and the map of each crate on which it depends
+  -- so are the tree with which the run begins, the maps of what holds it, and the keys of the crates behind it
   root_among : Contains answer.asked (root_key from.start from.tree)
   root_among = asked_among (root_key from.start from.tree) (still_asked steps (root_key from.start from.tree) (0, omega arith, refl))
 
   held_among : (key : Key) → Contains (held_keys from.start (holders_by before from.start)) key → Contains answer.asked key
   held_among key h = asked_among key (still_asked steps key (suc h.0, omega (arith, h.1), h.2))
 
-  map_among : (krate : Crate) → Contains transitive krate → Contains answer.asked (map_key krate)
-  map_among krate h =
-      subst (λ (ks : List Key). Contains ks (map_key krate)) (sym keys_are) (Contains-append_right c.asked (map_keys transitive) (map_key krate)
-      (mapped map_key transitive krate h))
+  behind_among : (key : Key) → Contains (keys_behind krate transitive) key → Contains answer.asked key
+  behind_among key h = subst (λ (ks : List Key). Contains ks key) (sym keys_are) (Contains-append_right c.asked (keys_behind krate transitive) key h)
 
   module _ {grown : TablesValue} {w : Workspace} {finished : Maps} (alike : Alike answer.asked (environment tables v) before (environment grown w) finished) where
     transitive_same : transitive_dependencies_in w (krate_of from.start) ≡ transitive
-    transitive_same = same_transitive from alike root_among held_among map_among krate
+    transitive_same = same_dependencies from alike root_among held_among behind_among
 
     reads_same : read_by w finished from.start ≡ read_by v before from.start
-    reads_same = same_read from alike root_among held_among map_among
+    reads_same = same_read from alike root_among held_among behind_among
 
     abbrev begun_by : Maps → Tree → List CrateRoot → Option ConfigValue → List Crate → List ModuleId → State
     begun_by maps tree crates config behind holders = start_by maps tree (exports_macros start (slice_get crates krate.0)) config behind holders start from.tree
@@ -260,8 +261,8 @@ module _ (tables : TablesValue) (v : Workspace) (before : Maps) (from : Beginnin
     -- the run over the other workspace begins alike
     begins_same : begin_of grown w finished from ≡ begin_of tables v before from
     begins_same = λ i.
-        begun_by (reads_same i) (same_tree from alike root_among held_among map_among i) (alike.crates i) (alike.config krate i) (transitive_same i)
-        (same_holders from alike root_among held_among map_among i)
+        begun_by (reads_same i) (same_tree from alike root_among held_among behind_among i) (alike.crates i)
+        (own_config from alike root_among held_among behind_among i) (transitive_same i) (same_holders from alike root_among held_among behind_among i)
 
     -- what the steps asked for the other workspace has too
     looks_same : (key : Key) → Contains c.asked key → look grown w (read_by v before from.start) key ≡ look tables v (read_by v before from.start) key
@@ -305,13 +306,17 @@ module _ (tables : TablesValue) (v : Workspace) (before : Maps) (from : Beginnin
       | inr p ↦ caused_by key p
     ]
 
+    caused_behind : (key : Key) → Contains (keys_behind krate transitive) key → causes.HasCause grown w finished from last key
+    caused_behind key h = elim (of_behind krate transitive key h) [
+      | inl m ↦ causes.dependency m.krate (subst (λ (crates : List Crate). Contains crates m.krate) (sym transitive_same) m.among) m.is
+      | inr m ↦ causes.handed_in m.krate (subst (λ (crates : List Crate). Contains (krate ∷ crates) m.krate) (sym transitive_same) m.among) m.is
+    ]
+
     caused_over : (key : Key) → Contains answer.asked key → causes.HasCause grown w finished from last key
     caused_over key among =
-        elim (Contains-append_cases c.asked (map_keys transitive) key (subst (λ (ks : List Key). Contains ks key) keys_are among)) [
+        elim (Contains-append_cases c.asked (keys_behind krate transitive) key (subst (λ (ks : List Key). Contains ks key) keys_are among)) [
           | inl own ↦ caused_asked key own
-          | inr later ↦
-              let found = mapped_from map_key transitive key later in
-              causes.dependency found.0 (subst (λ (crates : List Crate). Contains crates found.0) (sym transitive_same) found.1) (sym found.2)
+          | inr later ↦ caused_behind key later
         ]
 
     -- where a derivation over one workspace ends, one ends over each that is like it at what was asked for
@@ -338,7 +343,7 @@ module _ (tables : TablesValue) (v : Workspace) (before : Maps) (from : Beginnin
           map_is = ap (λ (a : CollectedValue). a.map) is;
           local_is = ap (λ (a : CollectedValue). a.local) is;
           leftover_is = ap (λ (a : CollectedValue). a.leftover) is;
-          asked_is = keys_are ∙ ap (λ (crates : List Crate). c.asked ++ map_keys crates) (sym transitive_same);
+          asked_is = keys_are ∙ ap (λ (crates : List Crate). c.asked ++ keys_behind krate crates) (sym transitive_same);
           dependencies_are = dependencies_are ∙ sym transitive_same;
           caused = caused_over;
         }
@@ -347,7 +352,7 @@ module _ (tables : TablesValue) (v : Workspace) (before : Maps) (from : Beginnin
   pub ends_over : {w : Workspace} {finished : Maps} → AgreeOn tables answer.asked v before w finished → last.agenda ≡ []
       → Rests (environment tables v) (read_by v before from.start) (begin_of tables v before from) last limited → Ends tables w finished from answer
   ends_over agrees visited rests =
-      ends_alike (record { kept = tables_stay tables; config = agrees.config; crates = agrees.crates; same = agrees.same }) visited rests
+      ends_alike (record { kept = tables_stay tables; crates = agrees.crates; same = agrees.same }) visited rests
 
 -- a run beside the maps that it may read is one beside all finished maps
 module _ (tables : TablesValue) (w : Workspace) (finished : Maps) (from : Beginning) (part : Maps) (transitive : List Crate) (holders : List ModuleId)
@@ -403,6 +408,7 @@ depends_on w krate o e = ap (λ (p : Option (List Crate)). unwrap_or p []) e ∙
     go : (config : Option ConfigValue) → w.config krate ≡ config → unwrap_or (option_map (λ _. transitive_dependencies_in w krate) config) []
         ≡ transitive_dependencies_in w krate
     go None f =
-        let nothing : direct_in w krate.0 ≡ [] = ap (λ (c : Option ConfigValue). list_map (λ (d : Dependency). d.krate) (dependencies_of c)) f in
+        let nothing : direct_in w krate.0 ≡ [] =
+        ap (λ (c : Option ConfigValue). earlier krate.0 (list_map (λ (d : Dependency). d.krate) (dependencies_of c))) f in
         sym (none_from (is_reached (direct_in w) krate.0 krate.0) (λ j. none_reached (direct_in w) krate.0 krate.0 j nothing) 0 krate.0)
     go (Some c) f = refl

@@ -16,7 +16,8 @@ use Rattle.hir_nameres.specs.HirScope.Globs.{GlobNames}
 use Rattle.hir_nameres.specs.HirScope.Scope.{ScopeValue, binding_of}
 use Rattle.hir_nameres.specs.HirPerNs.declared.per_ns.PerNs.{PerNs}
 use Rattle.hir_nameres.specs.HirPerNs.declared.visibility.Visibility.{Visibility}
-use Rattle.hir_nameres.specs.HirDefMapRules.State.{MacroDataValue, Map, Variants, changed_at, entry_at, module_at, new_id, new_module, numbered, pushed, with_child}
+use Rattle.hir_nameres.specs.HirDefMapRules.State.{MacroDataValue, Map, Variants, changed_at, entry_at, module_at}
+use Rattle.hir_nameres.specs.HirDefMapRules.State.{new_id, new_module, numbered, pushed, with_child}
 use Rattle.hir_nameres.specs.HirDefMapRules.State.{with_declared, with_enum, with_extern_block, with_module, with_module_scope, with_scope}
 use Rattle.hir_nameres.specs.HirDefMapRules.Overlay.{Maps}
 use Rattle.hir_nameres.specs.HirDefMapRules.Declaration.{listed}

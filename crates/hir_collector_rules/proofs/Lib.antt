@@ -12,6 +12,7 @@ pub mod Holds
 pub mod Tried
 pub mod ModuleFiles
 pub mod Asks
+pub mod Dependencies
 pub mod Asked
 pub mod Derived
 pub mod Numbers

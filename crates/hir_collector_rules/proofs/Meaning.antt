@@ -1,5 +1,6 @@
 -- The numbers in a run's keys mean something, and what is seen at them stays as tables grow.
-use Rattle.std.proofs.Common.{◌≡◌, ◌<◌, ◌+◌, ℕ, zero, suc, Bool, true, false, ◌||◌, List, [], ◌∷◌, ◌++◌, length, slice_get, Option, Some, None, inl, inr, refl}
+use Rattle.std.proofs.Common.{◌≡◌, ◌∙◌, ◌<◌, ◌+◌, ℕ, zero, suc, Bool, true, false, ◌||◌, List, []}
+use Rattle.std.proofs.Common.{◌∷◌, ◌++◌, length, slice_get, Option, Some, None, inl, inr, refl}
 use Rattle.std.proofs.Common.{sym, ap, subst, arith, append_assoc, Contains}
 use Rattle.std.specs.Option.{option_and_then}
 use Rattle.std.specs.Prelude.{IsSome, option_map}
@@ -15,6 +16,7 @@ use Rattle.hir_nameres.specs.HirIds.declared.ast_id.FileId.{FileId}
 use Rattle.hir_nameres.specs.HirIds.declared.ast_id.HirFileId.{HirFileId}
 use Rattle.hir_nameres.specs.HirBase.declared.macro_kind.MacroCallLoc.{MacroCallLoc}
 use Rattle.hir_nameres.specs.HirIds.declared.macro_kind.MacroId.{MacroId}
+use Rattle.hir_nameres.specs.HirIds.declared.ids.MapId.{MapId}
 use Rattle.hir_nameres.specs.HirIds.declared.ids.ModuleId.{ModuleId}
 use Rattle.hir_nameres.specs.HirIds.declared.ast_id.AstKind.TheVariants.{MacroDef, MacroRules}
 use Rattle.hir_nameres.specs.HirIds.declared.ast_id.HirFileId.TheVariants.{File, Macro}
@@ -39,7 +41,7 @@ use Rattle.hir_collector_rules.specs.Workspace.{Workspace, seen_of, transitive_d
 use Rattle.hir_collector_rules.specs.Attributes.{attr_id, item_node}
 use Rattle.hir_collector_rules.specs.ItemIds.{macro_rules_id}
 use Rattle.hir_collector_rules.specs.Macros.{is_macro_use}
-use Rattle.hir_collector_rules.specs.Keys.{HasMeaning, IsMeant, entry_under, enum_key, environment, input_of, macro_tree, map_key, map_keys, node_tree}
+use Rattle.hir_collector_rules.specs.Keys.{HasMeaning, IsMeant, entry_under, enum_key, environment, input_of, keys_behind, macro_tree, node_tree}
 use Rattle.hir_collector_rules.specs.Keys.{of_entry, of_input, of_text, of_tree, of_variants, source_under, text_at, text_of, tree_at}
 use Rattle.hir_collector_rules.specs.ModuleFiles.{IsFileMeant, own_file, tried_in}
 use Rattle.hir_collector_rules.specs.Calls.{Expanding, IsMeantAt, IsMeantCall, IsNumberedCall, call_site, call_tree, error_of, expansion_readings, item_kept}
@@ -57,9 +59,10 @@ use Rattle.hir_collector_rules.specs.Steps.{asking, call_at, derive_at, derives_
 use Rattle.hir_collector_rules.specs.Steps.{visits_inside, Step, Steps, none, more}
 use Rattle.hir_collector_rules.specs.Derivation.{finished_run}
 use Rattle.hir_collector_rules.specs.Growth.{AnswersStand, AskedKeysHaveMeaning, LooksStand}
-use Rattle.hir_collector_rules.proofs.Asked.{head_or_later, held_is_map, mapped_from}
+use Rattle.hir_collector_rules.proofs.Asked.{head_or_later, held_is_map, of_behind}
 use Rattle.hir_collector_rules.proofs.Asks.{only}
-use Rattle.hir_collector_rules.proofs.Changes.{AllFine, all_fine, asked-Step, fine_bringing, fine_expanding, fine_macro, fine_reporting, perform_keeps}
+use Rattle.hir_collector_rules.proofs.Changes.{AllFine, all_fine, asked-Step, fine_bringing, fine_expanding}
+use Rattle.hir_collector_rules.proofs.Changes.{fine_macro, fine_reporting, id-Steps, perform_keeps}
 use Rattle.hir_collector_rules.proofs.Derived.{ends_alike}
 use Rattle.hir_collector_rules.proofs.ModuleFiles.{found_meant, readings_meant}
 
@@ -98,6 +101,7 @@ looks_stand tables grown w finished (keys.Input krate ast) kept there =
 looks_stand tables grown w finished (keys.Expansion id) kept there =
     ap (λ (o : Option ExpansionValue). of_entry (entry_under w o)) (entry_stays tables grown id kept there)
 looks_stand tables grown w finished (keys.Map id) kept there = refl
+looks_stand tables grown w finished (keys.Config krate) kept there = refl
 
 -- ---- the numbers of sites mean something
 
@@ -395,23 +399,28 @@ passed_keys_have_meaning tables w finished from at there steps key h =
 pub asked_keys_have_meaning : AskedKeysHaveMeaning
 asked_keys_have_meaning tables w finished from answer there e key h =
     let transitive : List Crate = transitive_dependencies_in w (krate_of from.start) in
-    elim (Contains-append_cases e.last.core.asked (map_keys transitive) key (subst (λ (ks : List Key). Contains ks key) e.asked_is h)) [
+    let krate : Crate = krate_of from.start in
+    elim (Contains-append_cases e.last.core.asked (keys_behind krate transitive) key (subst (λ (ks : List Key). Contains ks key) e.asked_is h)) [
       | inl own ↦ passed_keys_have_meaning tables w finished from e.last there e.derived key own
-      | inr later ↦
-          let found = mapped_from map_key transitive key later in
-          subst (HasMeaning tables) found.2 tt
+      | inr later ↦ elim (of_behind krate transitive key later) [
+        | inl m ↦ subst (HasMeaning tables) (sym m.is) tt
+        | inr m ↦ subst (HasMeaning tables) (sym m.is) tt
+      ]
     ]
 
 -- ---- answers
 
 pub answers_stand : AnswersStand
 answers_stand tables grown w finished from answer kept there e =
-    let is : answer ≡ finished_run e.last.core answer.round_limit_met (transitive_dependencies_in w (krate_of from.start)) =
-    λ i. record { map = e.map_is i; local = e.local_is i; leftover = e.leftover_is i; round_limit_met = answer.round_limit_met; asked = e.asked_is i } in
+    let transitive : List Crate = transitive_dependencies_in w (krate_of from.start) in
+    let asked : answer.asked ≡ e.last.core.asked ++ keys_behind e.last.core.map.id.krate transitive =
+    e.asked_is
+    ∙ ap (λ (krate : Crate). e.last.core.asked ++ keys_behind krate transitive) (sym (ap (λ (id : MapId). id.krate) (id-Steps e.derived))) in
+    let is : answer ≡ finished_run e.last.core answer.round_limit_met transitive =
+    λ i. record { map = e.map_is i; local = e.local_is i; leftover = e.leftover_is i; round_limit_met = answer.round_limit_met; asked = asked i } in
     ends_alike tables w finished from e.last answer.round_limit_met answer e.derived is
     (record {
       kept = kept;
-      config = λ krate. refl;
       crates = refl;
       same = λ key h. looks_stand tables grown w finished key kept (asked_keys_have_meaning tables w finished from answer there e key h);
     })

@@ -19,7 +19,7 @@ use Rattle.hir_collector_rules.specs.declared.site.Site.{Site}
 use Rattle.hir_collector_rules.specs.declared.source_database.Key.{Key}
 use Rattle.hir_collector_rules.specs.declared.source_database.Key.TheVariants.{Tree, Variants}
 use Rattle.hir_collector_rules.specs.Workspace.{Workspace, transitive_dependencies_in}
-use Rattle.hir_collector_rules.specs.Keys.{environment, map_key}
+use Rattle.hir_collector_rules.specs.Keys.{config_key, environment, map_key}
 use Rattle.hir_collector_rules.specs.Attributes.{next_attribute}
 use Rattle.hir_collector_rules.specs.ModuleFiles.{IsNumberOf, NoneIsThereBefore, file_key, named_by}
 use Rattle.hir_collector_rules.specs.State.{State, Task, visits}
@@ -89,3 +89,6 @@ pub data HasCause (tables : TablesValue) (w : Workspace) (finished : Maps) (from
   -- it is the map of a crate on which the run's crate depends
   dependency : (krate : Crate) → Contains (transitive_dependencies_in w (krate_of from.start)) krate → key ≡ map_key krate → HasCause tables w finished from
       last key
+  -- it is what the run's crate was handed in with, or a crate on which that depends
+  handed_in : (krate : Crate) → Contains (krate_of from.start ∷ transitive_dependencies_in w (krate_of from.start)) krate → key ≡ config_key krate
+      → HasCause tables w finished from last key

@@ -19,7 +19,7 @@ use Rattle.hir_collector_rules.specs.declared.start.TheConstants.{STEP_LIMIT}
 use Rattle.hir_collector_rules.specs.declared.macro_directive.MacroDirective.{MacroDirective}
 use Rattle.hir_collector_rules.specs.declared.source_database.Key.{Key}
 use Rattle.hir_collector_rules.specs.Workspace.{Workspace, transitive_dependencies_in}
-use Rattle.hir_collector_rules.specs.Keys.{Environment, environment, map_keys}
+use Rattle.hir_collector_rules.specs.Keys.{Environment, environment, keys_behind}
 use Rattle.hir_collector_rules.specs.Calls.{IsWaiting, LeadsNowhere, waiting_item}
 use Rattle.hir_collector_rules.specs.Ended.{ended}
 use Rattle.hir_collector_rules.specs.NumberedOut.{LacksNumber}
@@ -90,7 +90,7 @@ finished_run c round_limit_met transitive = record {
   local = c.local;
   leftover = leftover_among c.reached c.taken;
   round_limit_met = round_limit_met;
-  asked = c.asked ++ map_keys transitive;
+  asked = c.asked ++ keys_behind c.map.id.krate transitive;
 }
 
 -- a derivation from the start over this workspace, beside these finished maps, ends in the answer
@@ -118,8 +118,8 @@ pub record Ends (tables : TablesValue) (w : Workspace) (finished : Maps) (from :
   pub map_is : answer.map ≡ with_diagnostics (ended last.core) (leftover_reports last.core)
   pub local_is : answer.local ≡ last.core.local
   pub leftover_is : answer.leftover ≡ leftover_among last.core.reached last.core.taken
-  -- what the steps asked for, and the map of each crate on which the run's crate depends
-  pub asked_is : answer.asked ≡ last.core.asked ++ map_keys (transitive_dependencies_in w (krate_of from.start))
+  -- what the steps asked for, the map of each crate on which the run's crate depends, and what these and the run's crate were handed in with
+  pub asked_is : answer.asked ≡ last.core.asked ++ keys_behind (krate_of from.start) (transitive_dependencies_in w (krate_of from.start))
   pub dependencies_are : answer.map.crate_data.dependencies ≡ transitive_dependencies_in w (krate_of from.start)
   pub caused : (key : Key) → Contains answer.asked key → HasCause tables w finished from last key
 

@@ -1,5 +1,5 @@
 -- What a run may ask for, and when two workspaces with their finished maps answer alike.
-use Rattle.std.specs.Prelude.{◌≡◌, ℕ, ⊤, false, List, [], map, Option, None, Some, Contains, IsSome}
+use Rattle.std.specs.Prelude.{◌≡◌, ℕ, ⊤, false, List, [], ◌∷◌, Option, None, Some, Contains, IsSome}
 use Rattle.std.specs.Option.{option_and_then}
 use Rattle.hir_nameres.specs.HirIds.declared.ast_id.AstId.{AstId}
 use Rattle.hir_nameres.specs.HirIds.declared.ids.Crate.{Crate}
@@ -22,8 +22,8 @@ use Rattle.hir_tables.specs.Tables.{TablesValue, entry_at, source_of}
 use Rattle.hir_nameres.specs.HirDefMapRules.References.{crate_map}
 use Rattle.hir_nameres.specs.HirDefMapRules.Overlay.{Maps, Placed}
 use Rattle.hir_collector_rules.specs.declared.source_database.Key.{Key}
-use Rattle.hir_collector_rules.specs.declared.source_database.Key.TheVariants.{Tree, Variants, Text, Input, Expansion, Map}
-use Rattle.hir_collector_rules.specs.Workspace.{Workspace, EntryLook, TreeLook, seen_of}
+use Rattle.hir_collector_rules.specs.declared.source_database.Key.TheVariants.{Tree, Variants, Text, Input, Expansion, Map, Config}
+use Rattle.hir_collector_rules.specs.Workspace.{ConfigValue, Workspace, EntryLook, TreeLook, seen_of}
 
 -- a workspace, and what the numbers mean by which a run speaks of it
 pub record Environment : Type 0 where
@@ -114,6 +114,7 @@ pub data Look : Type 0 where
   of_input : Option (List ℕ) → Look
   of_entry : EntryLook → Look
   of_map : Option Placed → Look
+  of_config : Option ConfigValue → Look
 
 -- what is there at a key; that it is absent is an answer too
 abbrev pub look : TablesValue → Workspace → Maps → Key → Look
@@ -123,6 +124,7 @@ look tables w finished (Text id) = of_text (text_at tables w id)
 look tables w finished (Input krate ast) = of_input (input_at tables w krate ast)
 look tables w finished (Expansion id) = of_entry (entry_in tables w id)
 look tables w finished (Map id) = of_map (finished id)
+look tables w finished (Config krate) = of_config (w.config krate)
 
 -- the numbers in what defines a macro mean something
 abbrev pub IsMeant : TablesValue → MacroId → Type 0
@@ -138,17 +140,26 @@ HasMeaning tables (Text id) = IsMeant tables id
 HasMeaning tables (Input krate ast) = IsSome (source_of tables (node_tree ast))
 HasMeaning tables (Expansion id) = IsSome (entry_at tables id)
 HasMeaning tables (Map id) = ⊤
+HasMeaning tables (Config krate) = ⊤
 
--- two workspaces have the same crates, handed in alike, and beside their finished maps the same at each of the keys
+-- two workspaces have the same crates, and beside their finished maps the same at each of the keys
 pub record AgreeOn (tables : TablesValue) (keys : List Key) (v : Workspace) (before : Maps) (w : Workspace) (finished : Maps) : Type 0 where
   pub crates : w.crates ≡ v.crates
-  pub config : (krate : Crate) → w.config krate ≡ v.config krate
   pub same : (key : Key) → Contains keys key → look tables w finished key ≡ look tables v before key
 
 -- the key of a crate's map
 abbrev pub map_key : Crate → Key
 map_key krate = Map (crate_map krate)
 
--- the keys of the maps of crates
-abbrev pub map_keys : List Crate → List Key
-map_keys crates = map map_key crates
+-- the key of what a crate was handed in with
+abbrev pub config_key : Crate → Key
+config_key krate = Config krate
+
+-- the keys of the maps of crates, each with that of what the crate was handed in with
+abbrev pub dependency_keys : List Crate → List Key
+dependency_keys [] = []
+dependency_keys (c ∷ cs) = map_key c ∷ config_key c ∷ dependency_keys cs
+
+-- the keys for which the run of a crate with these transitive dependencies asks, whatever its steps ask for
+abbrev pub keys_behind : Crate → List Crate → List Key
+keys_behind krate transitive = config_key krate ∷ dependency_keys transitive

@@ -1,5 +1,5 @@
 -- What is handed in: the crates, and what each of their sources has.
-use Rattle.std.specs.Prelude.{ℕ, Bool, List, [], Option, None, Some, map, option_map, slice_get}
+use Rattle.std.specs.Prelude.{ℕ, nat_lt, Bool, List, [], Option, None, Some, filter, map, option_map, slice_get}
 use Rattle.hir_nameres.specs.HirBase.ModPath.{Path}
 use Rattle.hir_nameres.specs.HirBase.declared.cfg.CfgAtom.{CfgAtom}
 use Rattle.hir_nameres.specs.HirIds.declared.ids.Crate.{Crate}
@@ -72,9 +72,17 @@ abbrev pub options_of : Option ConfigValue → List CfgAtom
 options_of None = []
 options_of (Some c) = c.options
 
--- the crates on which each depends directly, by number
+-- the crates that it names as dependencies
+abbrev pub named_by : (Crate → Option ConfigValue) → ℕ → List Crate
+named_by config k = map (λ (d : Dependency). d.krate) (dependencies_of (config (record { 0 = k })))
+
+-- those of some crates that come before one
+abbrev pub earlier : ℕ → List Crate → List Crate
+earlier k crates = filter (λ (c : Crate). nat_lt c.0 k) crates
+
+-- the crates on which each depends directly, by number; a crate depends only on such as come before it
 abbrev pub direct_by : (Crate → Option ConfigValue) → ℕ → List Crate
-direct_by config k = map (λ (d : Dependency). d.krate) (dependencies_of (config (record { 0 = k })))
+direct_by config k = earlier k (named_by config k)
 
 -- the crates on which a crate depends, directly or through others, by number
 abbrev pub transitive_by : (Crate → Option ConfigValue) → Crate → List Crate

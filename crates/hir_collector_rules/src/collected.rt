@@ -2,10 +2,10 @@
 ghost use Rattle.std.specs.Prelude.{◌≡◌, ◌++◌, List};
 ghost use Rattle.std.specs.Iterator.{YieldsFirst, item_count};
 ghost use Rattle.hir_collector_rules.specs.Asked.{IsOwnPart};
-ghost use Rattle.hir_collector_rules.specs.Keys.{map_keys};
+ghost use Rattle.hir_collector_rules.specs.Keys.{keys_behind};
 
 use crate::source_database::Key;
-use hir_base::ids::MapId;
+use hir_base::ids::{Crate, MapId};
 use hir_nameres::hir_crate_graph::crate_set::CrateSet;
 use hir_nameres::hir_crate_graph::crates::Crates;
 use hir_nameres::hir_scope::imports::ImportOrExternCrate;
@@ -29,33 +29,39 @@ pub struct Collected {
     pub asked: Asked,
 }
 
-/// The keys that a run asked for: those of its steps, and the map of each crate on which its crate depends. The latter
-/// are shared with the crate's data, so that a chain of crates doesn't keep a key for each pair.
+/// The keys that a run asked for: those of its steps, the map of each crate on which its crate depends, and what these and
+/// its own crate were handed in with. Those crates are shared with the crate's data, so that a chain of crates doesn't keep
+/// keys for each pair.
 #[derive(Drop)]
 pub struct Asked {
     own: Vec<Key>,
+    krate: Crate,
     dependencies: Rc<CrateSet>,
 }
 
 impl Model for Asked {
     ghost use Rattle.std.specs.Prelude.{List, ◌++◌};
     ghost use Rattle.hir_collector_rules.specs.declared.source_database.Key.{Key};
-    ghost use Rattle.hir_collector_rules.specs.Keys.{map_keys};
+    ghost use Rattle.hir_collector_rules.specs.Keys.{keys_behind};
 
     ghost Value = { List Key };
 
-    ghost view = { λ a. a.own.items ++ map_keys a.dependencies.value };
+    ghost view = { λ a. a.own.items ++ keys_behind a.krate a.dependencies.value };
 }
 
 impl Asked {
-    /// The keys of steps, and the maps of these crates.
-    pub fn new(own: Vec<Key>, dependencies: Rc<CrateSet>) -> Asked
-        ensures value { result ≡ own.items ++ map_keys dependencies.value }
+    /// The keys of steps in a run of this crate, which depends on those.
+    pub fn new(own: Vec<Key>, krate: Crate, dependencies: Rc<CrateSet>) -> Asked
+        ensures value { result ≡ own.items ++ keys_behind krate dependencies.value }
     {
-        Asked { own, dependencies }
+        Asked {
+            own,
+            krate,
+            dependencies,
+        }
     }
 
-    /// The keys of the steps: all but those maps.
+    /// The keys of the steps.
     pub fn own(&self) -> &[Key]
         ensures value { IsOwnPart result.now self.now }
     {
@@ -68,6 +74,7 @@ impl Asked {
     {
         AskedKeys {
             own: self.own.as_slice(),
+            config: Some(self.krate),
             dependencies: self.dependencies.iter(),
         }
     }
@@ -77,17 +84,19 @@ impl Asked {
 #[derive(Drop)]
 pub struct AskedKeys<'a> {
     own: &'a [Key],
+    /// The crate of which it is to come what it was handed in with.
+    config: Option<Crate>,
     dependencies: Crates<'a>,
 }
 
 impl<'a> Model for AskedKeys<'a> {
-    ghost use Rattle.std.specs.Prelude.{List, ◌++◌};
+    ghost use Rattle.std.specs.Prelude.{List};
     ghost use Rattle.hir_collector_rules.specs.declared.source_database.Key.{Key};
-    ghost use Rattle.hir_collector_rules.specs.Keys.{map_keys};
+    ghost use Rattle.hir_collector_rules.specs.Asked.{keys_left};
 
     ghost Value = { List Key };
 
-    ghost view = { λ k. k.own.now ++ map_keys k.dependencies };
+    ghost view = { λ k. keys_left k.own.now k.config k.dependencies };
 }
 
 impl<'a> Iterator for AskedKeys<'a> {
@@ -102,8 +111,15 @@ impl<'a> Iterator for AskedKeys<'a> {
             self.own = others;
             return Some(*key);
         }
+        if let Some(krate) = self.config {
+            self.config = None;
+            return Some(Key::Config(krate));
+        }
         match self.dependencies.next() {
-            Some(krate) => Some(Key::Map(MapId::of_crate(krate))),
+            Some(krate) => {
+                self.config = Some(krate);
+                Some(Key::Map(MapId::of_crate(krate)))
+            }
             None => None,
         }
     }

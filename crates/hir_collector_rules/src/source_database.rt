@@ -35,6 +35,8 @@ pub enum Key {
     Expansion(EntryId),
     /// A finished map.
     Map(MapId),
+    /// What a crate was handed in with, its root aside.
+    Config(Crate),
 }
 
 /// A crate's root file, and whether its functions are macros.

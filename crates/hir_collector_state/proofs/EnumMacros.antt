@@ -7,7 +7,8 @@ use Rattle.hir_collector_rules.specs.HirIds.declared.ids.ModuleDefId.{ModuleDefI
 use Rattle.hir_collector_rules.specs.HirBase.declared.mod_path.PathKind.{PathKind}
 use Rattle.hir_collector_rules.specs.HirIds.declared.ids.AdtId.TheVariants as adts
 use Rattle.hir_collector_rules.specs.HirIds.declared.ids.ModuleId.{ModuleId as AnyModule}
-use Rattle.hir_collector_rules.specs.HirIds.declared.ids.ModuleDefId.TheVariants.{ModuleId, FunctionId, AdtId as AnyAdt, EnumVariantId, ConstId, StaticId, TraitId, TypeAliasId}
+use Rattle.hir_collector_rules.specs.HirIds.declared.ids.ModuleDefId.TheVariants.{ModuleId, FunctionId, AdtId as AnyAdt, EnumVariantId}
+use Rattle.hir_collector_rules.specs.HirIds.declared.ids.ModuleDefId.TheVariants.{ConstId, StaticId, TraitId, TypeAliasId}
 use Rattle.hir_collector_rules.specs.HirIds.declared.ids.ModuleDefId.TheVariants.{BuiltinType, MacroId}
 use Rattle.hir_collector_rules.specs.HirIds.declared.macro_kind.MacroId.{MacroId as AnyMacro}
 use Rattle.hir_collector_rules.specs.HirBase.declared.mod_path.PathKind.TheVariants as kinds
@@ -21,11 +22,14 @@ use Rattle.hir_collector_rules.specs.HirDefMapRules.Ancestors.{holders_in}
 use Rattle.hir_collector_rules.specs.HirDefMapRules.Overlay.{Maps, map_in, overlay}
 use Rattle.hir_collector_rules.specs.HirDefMapRules.Scoping.Asking.{Asking}
 use Rattle.hir_collector_rules.specs.HirDefMapRules.Scoping.Blocks.{from_blocks, in_preludes, inherited, joined, with_preludes}
-use Rattle.hir_collector_rules.specs.HirDefMapRules.Scoping.FirstSegment.{extern_name, is_block_root, name_in_crate_root_or_extern_prelude, name_in_module, name_in_preludes}
+use Rattle.hir_collector_rules.specs.HirDefMapRules.Scoping.FirstSegment.{extern_name, is_block_root, name_in_crate_root_or_extern_prelude}
+use Rattle.hir_collector_rules.specs.HirDefMapRules.Scoping.FirstSegment.{name_in_module, name_in_preludes}
 use Rattle.hir_collector_rules.specs.HirDefMapRules.Scoping.FirstSegment.{shadow_before}
-use Rattle.hir_collector_rules.specs.HirDefMapRules.Scoping.Segments.{after_enum, nearest_non_block_module, rest, seen, through, through_adt, through_type, unresolved}
+use Rattle.hir_collector_rules.specs.HirDefMapRules.Scoping.Segments.{after_enum, nearest_non_block_module, rest, seen}
+use Rattle.hir_collector_rules.specs.HirDefMapRules.Scoping.Segments.{through, through_adt, through_type, unresolved}
 use Rattle.hir_collector_rules.specs.HirDefMapRules.Scoping.Segments.{variant_in}
-use Rattle.hir_collector_rules.specs.HirDefMapRules.Scoping.Start.{abs_from, climb, from_start, is_import, is_in_edition_2015, is_in_reach, module_bound, settled_in_block}
+use Rattle.hir_collector_rules.specs.HirDefMapRules.Scoping.Start.{abs_from, climb, from_start, is_import, is_in_edition_2015}
+use Rattle.hir_collector_rules.specs.HirDefMapRules.Scoping.Start.{is_in_reach, module_bound, settled_in_block}
 use Rattle.hir_collector_rules.specs.HirDefMapRules.Scoping.Start.{super_from}
 use Rattle.hir_collector_rules.specs.HirDefMapRules.State.{Map, Variants, crate_root}
 use Rattle.hir_collector_rules.specs.HirMapParts.declared.enum_variants.EnumVariant.{EnumVariant}

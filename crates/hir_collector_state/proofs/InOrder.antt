@@ -5,7 +5,8 @@ use Rattle.hir_collector_rules.specs.HirIds.declared.ids.ModuleId.{ModuleId}
 use Rattle.hir_collector_rules.specs.HirScope.Scope.{ScopeValue}
 use Rattle.hir_collector_rules.proofs.HirDefMapRules.Grown.{kept, length-changed}
 use Rattle.hir_collector_rules.specs.HirDefMapRules.Overlay.{Maps}
-use Rattle.hir_collector_rules.specs.HirDefMapRules.State.{IsBefore, IsInOrder, Map, ModuleValue, changed_at, module_at, new_id, numbered, parent_of, with_child, with_module}
+use Rattle.hir_collector_rules.specs.HirDefMapRules.State.{IsBefore, IsInOrder, Map, ModuleValue, changed_at, module_at}
+use Rattle.hir_collector_rules.specs.HirDefMapRules.State.{new_id, numbered, parent_of, with_child, with_module}
 use Rattle.hir_collector_rules.specs.HirDefMapRules.State.{with_module_scope, with_scope}
 use Rattle.hir_collector_rules.specs.HirImportRules.Rules.{acts as import_acts}
 use Rattle.hir_collector_rules.specs.Calls.{error_of}

@@ -28,9 +28,12 @@ use Rattle.hir_collector_rules.specs.HirPerNs.declared.visibility.Visibility.{Vi
 use Rattle.hir_collector_rules.proofs.HirDefMapRules.Grown.{kept, length-changed}
 use Rattle.hir_collector_rules.specs.HirDefMapRules.Declaration.{listed}
 use Rattle.hir_collector_rules.specs.HirDefMapRules.Overlay.{Maps}
-use Rattle.hir_collector_rules.specs.HirDefMapRules.Macros.{helpers_at, with_derive_helper, with_diagnostic, with_exported, with_helper, with_macro_data, with_macro_def}
-use Rattle.hir_collector_rules.specs.HirDefMapRules.State.{IsInOrder, Local, MacroDataValue, Map, ModuleValue, changed_at, changes_module, entry_of, module_at, new_module}
-use Rattle.hir_collector_rules.specs.HirDefMapRules.State.{numbered, parent_at, parent_of, push_changes, pushed, pushed_module, place_at, Variants, variants_at, with_enum}
+use Rattle.hir_collector_rules.specs.HirDefMapRules.Macros.{helpers_at, with_derive_helper, with_diagnostic, with_exported}
+use Rattle.hir_collector_rules.specs.HirDefMapRules.Macros.{with_helper, with_macro_data, with_macro_def}
+use Rattle.hir_collector_rules.specs.HirDefMapRules.State.{IsInOrder, Local, MacroDataValue, Map, ModuleValue, changed_at}
+use Rattle.hir_collector_rules.specs.HirDefMapRules.State.{changes_module, entry_of, module_at, new_module}
+use Rattle.hir_collector_rules.specs.HirDefMapRules.State.{numbered, parent_at, parent_of, push_changes, pushed, pushed_module}
+use Rattle.hir_collector_rules.specs.HirDefMapRules.State.{place_at, Variants, variants_at, with_enum}
 use Rattle.hir_collector_rules.specs.HirDefMapRules.State.{with_extern, with_module, with_module_scope, with_scope}
 use Rattle.hir_collector_rules.specs.HirDefMapRules.declared.declaration.Declaration.{Declaration as Listing}
 use Rattle.hir_collector_rules.specs.HirMapParts.declared.diagnostics.DefDiagnostic.{DefDiagnostic}
@@ -54,7 +57,8 @@ use Rattle.hir_collector_rules.specs.HirImportRules.Directives.{TakenValue}
 use Rattle.hir_import_growth.specs.Binding.{IsBound}
 use Rattle.hir_import_growth.specs.Growth.{GlobsLast, GrowsAround, HaveGlobs}
 use Rattle.hir_collector_rules.specs.HirImportRules.declared.directive.ImportDirective.{ImportDirective}
-use Rattle.hir_collector_rules.specs.HirImportRules.Changed.{ChangedValue, IsThere, IsUnhelped, IsUntouched, everything, item_cmp, with_item, with_preludes, with_slot}
+use Rattle.hir_collector_rules.specs.HirImportRules.Changed.{ChangedValue, IsThere, IsUnhelped, IsUntouched, everything}
+use Rattle.hir_collector_rules.specs.HirImportRules.Changed.{item_cmp, with_item, with_preludes, with_slot}
 use Rattle.hir_collector_rules.specs.Attributes.{is_named_by}
 use Rattle.hir_collector_rules.specs.Changes.{with_builtin_derive, with_derived}
 use Rattle.hir_collector_rules.specs.Invocations.{Invocation, with_invocation, with_noted}

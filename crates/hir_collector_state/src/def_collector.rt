@@ -650,6 +650,7 @@ impl DefCollector {
         let leftover = untaken(alloc, &self.reached, &self.taken)?;
         let names = unresolved_crates(alloc, &self.reached, &self.taken)?;
         let mut map = self.map;
+        let krate = map.id().krate;
         if self.is_proc_macro {
             censor_root(&mut map, &self.exported);
         }
@@ -660,7 +661,7 @@ impl DefCollector {
             local: self.local,
             leftover,
             round_limit_met,
-            asked: Asked::new(self.asked, transitive),
+            asked: Asked::new(self.asked, krate, transitive),
         })
     }
 }

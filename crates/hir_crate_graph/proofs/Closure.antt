@@ -29,7 +29,7 @@ on_time k d others e = go (nat_le k d) refl e
     go false s e = (grind (arith, nat_tests), e)
 
 -- two tests that agree on what comes before a crate agree on its dependencies
-any_alike : (k : ℕ) (p q : Crate → Bool) (ds : List Crate) → has_late k ds ≡ false → ((d : Crate) → d.0 < k → p d ≡ q d) → list_any p ds ≡ list_any q ds
+pub any_alike : (k : ℕ) (p q : Crate → Bool) (ds : List Crate) → has_late k ds ≡ false → ((d : Crate) → d.0 < k → p d ≡ q d) → list_any p ds ≡ list_any q ds
 any_alike k p q [] none same = refl
 any_alike k p q (d ∷ ds) none same =
     let h = on_time k d.0 (has_late k ds) none in
@@ -66,7 +66,7 @@ any_by p (e ∷ es) d has passes = go (any_by p es d) (same_crate d e) refl has
     go behind false s h = ap (λ (t : Bool). p e || t) (behind h passes) ∙ or_true (p e)
 
 module _ (direct : ℕ → List Crate) where
-  less : (m n : ℕ) → m ≤ n → IsOrderedBelow direct n → IsOrderedBelow direct m
+  pub less : (m n : ℕ) → m ≤ n → IsOrderedBelow direct n → IsOrderedBelow direct m
   less m n le ordered = λ k lt. ordered k (omega arith)
 
   none_before_first : has_late 0 (direct 0) ≡ false → (p : Crate → Bool) → list_any p (direct 0) ≡ false

@@ -1,3 +1,4 @@
 pub mod CrateLists
 mod Rows
 pub mod Closure
+pub mod Prefixes

@@ -35,3 +35,7 @@ IsOrderedBelow direct count = (k : ℕ) → k < count → has_late k (direct k) 
 pub record AreTransitive (direct : ℕ → List Crate) (sets : List (List Crate)) : Type 0 where
   pub ordered : IsOrderedBelow direct (length sets)
   pub each : sets ≡ transitive_below direct (length sets)
+
+-- the same crates are named below a number
+abbrev pub AgreeBelow : ℕ → (ℕ → List Crate) → (ℕ → List Crate) → Type 0
+AgreeBelow count direct other = (k : ℕ) → k < count → other k ≡ direct k

@@ -1,10 +1,10 @@
 //! The transitive dependencies of each crate.
-ghost use Rattle.std.specs.Prelude.{◌≡◌, ℕ, ◌<◌, ◌^◌, [], List, length, map, true, OnOk, OnErr, IfOk, option_map, slice_get};
+ghost use Rattle.std.specs.Prelude.{◌≡◌, ℕ, ◌<◌, ◌^◌, [], List, length, map, take, true, OnOk, OnErr, IfOk, option_map, slice_get};
 ghost use Rattle.hir_ids.specs.Refusal.{Gives};
 ghost use Rattle.hir_ids.specs.declared.ids.Crate.{Crate};
 ghost use Rattle.hir_crate_graph.specs.declared.transitive.CrateGraphError.TheVariants.{Memory};
 ghost use Rattle.hir_crate_graph.specs.CrateSet.{Gains, IsAscending};
-ghost use Rattle.hir_crate_graph.specs.Dependencies.{has_late, AreTransitive};
+ghost use Rattle.hir_crate_graph.specs.Dependencies.{has_late, AgreeBelow, AreTransitive};
 ghost use Rattle.hir_crate_graph.specs.Graph.{IsMemory, Adds, comes_by, IsUnionOf, transitive_of, verdict_of_push};
 
 use crate::crate_set::CrateSet;
@@ -140,6 +140,18 @@ impl TransitiveDependencies {
         ensures value { option_map (λ set. set.now.value) result ≡ slice_get self.now krate.0 }
     {
         self.sets.get(krate.0 as usize)
+    }
+
+    /// Those of so many crates, the first ones, which share their sets with these. They are those of other crates too that depend
+    /// on the same.
+    pub fn prefix(&self, len: usize) -> Result<TransitiveDependencies, AllocError>
+        ensures value { IfOk result (λ t. t ≡ take len self.now) }
+        ensures transitive { (direct other : ℕ → List Crate) → AreTransitive direct self.now → AgreeBelow len direct other
+            → IfOk result (λ t. AreTransitive other t) }
+    {
+        let mut sets = self.sets.clone()?;
+        sets.truncate(len);
+        Ok(TransitiveDependencies { sets })
     }
 
     /// How many crates there are.

@@ -20,8 +20,10 @@ use Rattle.hir_collector_rules.specs.HirIds.declared.macro_kind.MacroId.TheVaria
 use Rattle.hir_collector_rules.specs.HirItemTree.Collected.{Collected, Numbered as Attribute, is_enabled, is_enabled_by}
 use Rattle.hir_collector_rules.specs.HirItemTree.ItemTree.{Tree}
 use Rattle.hir_collector_rules.specs.HirItemTree.Kinds.{item_head}
-use Rattle.hir_collector_rules.specs.HirItemTree.KeptForest.{Head, Leaf, KeptItem, KeptForest, constant, enumeration, extern_block, extern_crate, function, holder}
-use Rattle.hir_collector_rules.specs.HirItemTree.KeptForest.{implementation, import, inline_module, leaf, macro_call, macro_def, macro_rules, no_items, outline_module}
+use Rattle.hir_collector_rules.specs.HirItemTree.KeptForest.{Head, Leaf, KeptItem, KeptForest, constant, enumeration}
+use Rattle.hir_collector_rules.specs.HirItemTree.KeptForest.{extern_block, extern_crate, function, holder}
+use Rattle.hir_collector_rules.specs.HirItemTree.KeptForest.{implementation, import, inline_module, leaf, macro_call}
+use Rattle.hir_collector_rules.specs.HirItemTree.KeptForest.{macro_def, macro_rules, no_items, outline_module}
 use Rattle.hir_collector_rules.specs.HirItemTree.KeptForest.{static_item, structure, trait_item, type_alias, union_structure}
 use Rattle.hir_collector_rules.specs.HirBase.declared.tree_id.TreeId.{TreeId}
 use Rattle.hir_collector_rules.specs.HirBase.declared.tree_id.TreeKey.{TreeKey}

@@ -22,7 +22,8 @@ use Rattle.hir_collector_rules.specs.HirUseTree.declared.imports.ImportKind.TheV
 use Rattle.hir_collector_rules.specs.HirPerNs.contracts.imports.ImportOrExternCratePartialEq.TheImpl as item_import
 use Rattle.hir_collector_rules.specs.HirPerNs.contracts.imports.ImportOrGlobPartialEq.TheImpl as glob_import
 use Rattle.hir_collector_rules.specs.HirScopeTable.Table.{rewritten}
-use Rattle.hir_collector_rules.specs.HirScope.Bindings.{macro_candidate, taken, takes as takes_slot, type_candidate, value_candidate, with_item_definition, with_item_visibility}
+use Rattle.hir_collector_rules.specs.HirScope.Bindings.{macro_candidate, taken, takes as takes_slot, type_candidate}
+use Rattle.hir_collector_rules.specs.HirScope.Bindings.{value_candidate, with_item_definition, with_item_visibility}
 use Rattle.hir_collector_rules.specs.HirScope.Bindings.{written_items}
 use Rattle.hir_collector_rules.specs.HirScope.ImportRecords.{is_glob}
 use Rattle.hir_collector_rules.specs.HirScope.Entries.{item_at}
@@ -46,17 +47,20 @@ use Rattle.hir_collector_rules.specs.HirPerNs.declared.item_in_ns.ItemInNs.TheVa
 use Rattle.hir_collector_rules.specs.HirTables.Tables.{TablesValue}
 use Rattle.hir_collector_rules.specs.HirDefMapRules.Declaration.{listed}
 use Rattle.hir_collector_rules.specs.HirDefMapRules.Overlay.{Maps}
-use Rattle.hir_collector_rules.specs.HirDefMapRules.State.{Local, Map, ModuleValue, changed_at, entry_of, module_at, new_id, new_module, numbered, with_child, with_module_scope}
+use Rattle.hir_collector_rules.specs.HirDefMapRules.State.{Local, Map, ModuleValue, changed_at, entry_of, module_at, new_id}
+use Rattle.hir_collector_rules.specs.HirDefMapRules.State.{new_module, numbered, with_child, with_module_scope}
 use Rattle.hir_collector_rules.specs.HirDefMapRules.declared.declaration.Declaration.{Declaration as Listing}
 use Rattle.hir_collector_rules.specs.HirDefMapRules.declared.declaration.Declaration.TheVariants as listings
-use Rattle.hir_collector_rules.specs.HirGlobImports.Rules.{Rule as GlobRule, May as MayAlong, acts as glob_acts, brings, copies, copies_along, follows, follows_along, raises}
+use Rattle.hir_collector_rules.specs.HirGlobImports.Rules.{Rule as GlobRule, May as MayAlong, acts as glob_acts, brings}
+use Rattle.hir_collector_rules.specs.HirGlobImports.Rules.{copies, copies_along, follows, follows_along, raises}
 use Rattle.hir_collector_rules.specs.HirGlobImports.Rules.{raises_along}
 use Rattle.hir_collector_rules.specs.HirGlobImports.declared.edge.Bound.{Bound}
 use Rattle.hir_collector_rules.specs.HirGlobImports.declared.edge.Edge.{Edge}
 use Rattle.hir_collector_rules.specs.HirGlobImports.declared.edge.Key.{Key}
 use Rattle.hir_collector_rules.specs.HirGlobImports.declared.edge.Key.TheVariants.{Types, Values, Macros, Unnamed}
 use Rattle.hir_collector_rules.specs.HirImportRules.Changes.{Change as ImportChange, along, keeps_trait, pushes, pushing, records, takes}
-use Rattle.hir_collector_rules.specs.HirImportRules.Directives.{answer_by_source, answer_of_crate, glob_of, is_unnamed, kept_by, kept_of, kept_trait, kind_of, leaf_of}
+use Rattle.hir_collector_rules.specs.HirImportRules.Directives.{answer_by_source, answer_of_crate, glob_of, is_unnamed}
+use Rattle.hir_collector_rules.specs.HirImportRules.Directives.{kept_by, kept_of, kept_trait, kind_of, leaf_of}
 use Rattle.hir_collector_rules.specs.HirImportRules.Directives.{path_answer, trait_among, way_of}
 use Rattle.hir_collector_rules.specs.HirImportRules.Names.{bound_of, redefined, revised, scope_table, view_of, with_trait}
 use Rattle.hir_collector_rules.specs.HirImportRules.Rules.{Rule as ImportRule, May as MayImport, acts as import_acts, goes_along, takes_glob, takes_import}

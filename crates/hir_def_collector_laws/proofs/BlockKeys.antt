@@ -19,7 +19,8 @@ use Rattle.hir_collector_rules.specs.HirUseTree.UseTree.{count_of}
 use Rattle.hir_collector_rules.specs.HirDefMapRules.Closed.{PathsLeadToWhatIsThere}
 use Rattle.hir_collector_rules.specs.HirDefMapRules.Overlay.{Maps, overlay}
 use Rattle.hir_collector_rules.specs.HirDefMapRules.Scoping.{resolution_of}
-use Rattle.hir_collector_rules.specs.HirDefMapRules.Sources.{HoldsNowhere, HoldsOfNone, PathsAnswerFromSources, on_import, on_macro, on_macro_item, on_some, on_visibility}
+use Rattle.hir_collector_rules.specs.HirDefMapRules.Sources.{HoldsNowhere, HoldsOfNone, PathsAnswerFromSources, on_import}
+use Rattle.hir_collector_rules.specs.HirDefMapRules.Sources.{on_macro, on_macro_item, on_some, on_visibility}
 use Rattle.hir_collector_rules.specs.HirDefMapRules.State.{numbered}
 use Rattle.hir_collector_rules.specs.HirDefMapRules.WellFormed.{AreWellFormed}
 use Rattle.hir_collector_rules.proofs.HirDefMapRules.NoneOf.{neither, none_at, not_first}
@@ -31,7 +32,7 @@ use Rattle.hir_collector_rules.specs.Calls.{by_style, called_macro, error_of, pa
 use Rattle.hir_collector_rules.specs.Changes.{Change, lists, makes, gives_variants, begins_paths, reaches, awaits, ends, settles, changes_imports, adds_textual}
 use Rattle.hir_collector_rules.specs.Changes.{takes_textual, defines, describes, helps, lists_derive, notes, exports, uses_macros, tells, goes_on, act}
 use Rattle.hir_collector_rules.specs.ItemIds.{macro_rules_id, module_id}
-use Rattle.hir_collector_rules.specs.Keys.{Environment, environment, map_keys}
+use Rattle.hir_collector_rules.specs.Keys.{Environment, dependency_keys, environment, keys_behind}
 use Rattle.hir_collector_rules.specs.ModuleFiles.{LookedAt, Tried, file_readings, tried_in}
 use Rattle.hir_collector_rules.specs.Start.{Beginning, begin_of, block_of, holders_by, krate_of, read_by, start_of}
 use Rattle.hir_collector_rules.specs.State.{State, import_state}
@@ -81,9 +82,12 @@ of_each [] f key h = absurd (let past : h.0 < 0 = h.1 in omega arith)
 of_each (x ∷ xs) f key (zero, within, is) = ap block_of_key (sym is) ∙ f.0
 of_each (x ∷ xs) f key (suc n, within, is) = of_each xs f.1 key (n, omega arith, is)
 
-of_maps : (crates : List Crate) → Blockless (map_keys crates)
-of_maps [] = tt
-of_maps (c ∷ cs) = (refl, of_maps cs)
+of_dependencies : (crates : List Crate) → Blockless (dependency_keys crates)
+of_dependencies [] = tt
+of_dependencies (c ∷ cs) = (refl, (refl, of_dependencies cs))
+
+of_crates : (krate : Crate) (transitive : List Crate) → Blockless (keys_behind krate transitive)
+of_crates krate transitive = (refl, of_dependencies transitive)
 
 of_files : (krate : Crate) (edition : Edition) (tried : List Tried) → Blockless (keys_read (file_readings krate edition tried))
 of_files krate edition [] = tt
@@ -259,9 +263,10 @@ none_asked answers paths tables w all from answer whole stands e own fileless no
     (first_blockless finished nowhere tables w from from.start own fileless) in
     let last : IsBlockless e.last = all_blockless answers paths finished whole nowhere (environment tables w) begun e.last
     (in_range-start tables w finished holders from) names first e.derived in
+    let transitive : List Crate = transitive_dependencies_in w (krate_of from.start) in
     let asked : Blockless answer.asked =
-    subst Blockless (sym e.asked_is) (both e.last.core.asked (map_keys (transitive_dependencies_in w (krate_of from.start))) last.asked
-    (of_maps (transitive_dependencies_in w (krate_of from.start)))) in (
+    subst Blockless (sym e.asked_is) (both e.last.core.asked (keys_behind (krate_of from.start) transitive) last.asked
+    (of_crates (krate_of from.start) transitive)) in (
       of_each answer.asked asked,
       (ends_sourced in_blocks answers paths finished whole tables w all from answer refl stands (begins_clear finished from.start from.tree own) e (record {
         written = λ key h. ap (λ (o : Option BlockId). is_some o) (of_each answer.asked asked (keys.Tree key) h);

@@ -35,10 +35,12 @@ use Rattle.hir_collector_rules.specs.HirPerNs.declared.visibility.Visibility.The
 use Rattle.hir_collector_rules.specs.HirTables.Tables.{TablesValue}
 use Rattle.hir_collector_rules.specs.HirDefMapRules.Declaration.{listed}
 use Rattle.hir_collector_rules.specs.HirDefMapRules.Overlay.{Maps}
-use Rattle.hir_collector_rules.specs.HirDefMapRules.State.{Map, ModuleValue, changed_at, entry_at, entry_of, module_at, new_id, new_module, with_child, with_module_scope}
+use Rattle.hir_collector_rules.specs.HirDefMapRules.State.{Map, ModuleValue, changed_at, entry_at, entry_of, module_at}
+use Rattle.hir_collector_rules.specs.HirDefMapRules.State.{new_id, new_module, with_child, with_module_scope}
 use Rattle.hir_collector_rules.specs.HirGlobImports.Keys.{is_unnamed, slot_at}
 use Rattle.hir_collector_rules.specs.HirGlobImports.Moves.{brought_vis, is_as_seen, may_raise, same_bound, same_def, same_vis, seen_by, shown}
-use Rattle.hir_collector_rules.specs.HirGlobImports.Rules.{BroughtBy, CanCopy, CanFollow, CanRaise, Rule as GlobRule, May as MayAlong, acts as glob_acts, as_seen, copies_along}
+use Rattle.hir_collector_rules.specs.HirGlobImports.Rules.{BroughtBy, CanCopy, CanFollow, CanRaise, Rule as GlobRule}
+use Rattle.hir_collector_rules.specs.HirGlobImports.Rules.{May as MayAlong, acts as glob_acts, as_seen, copies_along}
 use Rattle.hir_collector_rules.specs.HirGlobImports.Rules.{follows_along, noted, raises_along}
 use Rattle.hir_collector_rules.specs.HirGlobImports.View.{View, bound_in}
 use Rattle.hir_collector_rules.specs.HirGlobImports.Waves.{Stands}
@@ -49,7 +51,8 @@ use Rattle.hir_collector_rules.specs.HirGlobImports.declared.edge.Key.{Key}
 use Rattle.hir_collector_rules.specs.HirGlobImports.declared.edge.Key.TheVariants.{Types, Values, Macros, Unnamed}
 use Rattle.hir_collector_rules.specs.HirImportRules.Changes.{Change as ImportChange, along, keeps_trait, kept_vis, pushes, pushing, records, takes}
 use Rattle.hir_collector_rules.specs.HirImportRules.ScopeLaws.{vacant_of}
-use Rattle.hir_collector_rules.specs.HirImportRules.Names.{ScopesValue, bound_at, bound_by, bound_of, copied, copied_where, entries_of, followed, followed_where, raised}
+use Rattle.hir_collector_rules.specs.HirImportRules.Names.{ScopesValue, bound_at, bound_by, bound_of, copied, copied_where}
+use Rattle.hir_collector_rules.specs.HirImportRules.Names.{entries_of, followed, followed_where, raised}
 use Rattle.hir_collector_rules.specs.HirImportRules.Names.{scope_table, trait_vis, view_of, with_trait}
 use Rattle.hir_collector_rules.specs.HirImportRules.Rules.{Rule as ImportRule, May as MayImport, goes_along, takes_glob, takes_import}
 use Rattle.hir_collector_rules.specs.HirImportRules.State.{glob_state, scopes_of}

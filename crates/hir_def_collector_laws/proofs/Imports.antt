@@ -12,7 +12,7 @@ use Rattle.hir_collector_rules.specs.HirImportRules.declared.directive.ImportDir
 use Rattle.hir_collector_rules.specs.declared.source_database.Key.{Key}
 use Rattle.hir_collector_rules.specs.declared.macro_directive.MacroDirective.{MacroDirective}
 use Rattle.hir_collector_rules.specs.Derivation.{CollectedValue, Ends, leftover_among, told_of}
-use Rattle.hir_collector_rules.specs.Keys.{map_keys}
+use Rattle.hir_collector_rules.specs.Keys.{keys_behind}
 use Rattle.hir_collector_rules.specs.Start.{Beginning, begin_of, holders_by, krate_of, read_by}
 use Rattle.hir_collector_rules.specs.Workspace.{Workspace, transitive_dependencies_in}
 use Rattle.hir_collector_rules.proofs.Asks.{still_asked}
@@ -57,7 +57,7 @@ module _ (tables : TablesValue) (w : Workspace) (finished : Maps) (from : Beginn
   pub answer_asked : AreAsked tables w from answer e.last
   answer_asked key h =
       subst (λ (ks : List Key). Contains ks key) (sym e.asked_is)
-      (Contains-append_left e.last.core.asked (map_keys (transitive_dependencies_in w (krate_of from.start))) key h)
+      (Contains-append_left e.last.core.asked (keys_behind (krate_of from.start) (transitive_dependencies_in w (krate_of from.start))) key h)
 
   same_crate : (begin_of tables w finished from).core.map.crate_data ≡ answer.map.crate_data
   same_crate = sym (ap (λ (m : Map). m.crate_data) e.map_is ∙ same_data e.last.core ∙ data-Steps e.derived)

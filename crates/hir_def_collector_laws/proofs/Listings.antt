@@ -11,7 +11,8 @@ use Rattle.hir_collector_rules.specs.HirPerNs.PerNs.{macros_only}
 use Rattle.hir_collector_rules.specs.HirScope.Scope.{ScopeValue}
 use Rattle.hir_collector_rules.specs.HirPerNs.declared.visibility.Visibility.TheVariants as visibilities
 use Rattle.hir_collector_rules.specs.HirDefMapRules.Declaration.{listed}
-use Rattle.hir_collector_rules.specs.HirDefMapRules.State.{Map, ModuleValue, changed_at, module_at, new_id, new_module, numbered, with_child, with_module, with_module_scope}
+use Rattle.hir_collector_rules.specs.HirDefMapRules.State.{Map, ModuleValue, changed_at, module_at, new_id, new_module}
+use Rattle.hir_collector_rules.specs.HirDefMapRules.State.{numbered, with_child, with_module, with_module_scope}
 use Rattle.hir_collector_rules.specs.HirDefMapRules.State.{with_scope}
 use Rattle.hir_collector_rules.specs.HirDefMapRules.Overlay.{Maps}
 use Rattle.hir_collector_rules.specs.HirDefMapRules.declared.declaration.Declaration.{Declaration as Listing}

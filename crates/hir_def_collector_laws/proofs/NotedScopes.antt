@@ -10,7 +10,8 @@ use Rattle.hir_collector_rules.specs.HirIds.declared.ids.TraitId.{TraitId}
 use Rattle.hir_collector_rules.specs.HirIds.declared.ids.ModuleDefId.TheVariants as definitions
 use Rattle.hir_collector_rules.specs.HirPerNs.contracts.imports.ImportOrExternCratePartialEq.TheImpl as item_import
 use Rattle.hir_collector_rules.specs.HirPerNs.contracts.imports.ImportOrGlobPartialEq.TheImpl as glob_import
-use Rattle.hir_collector_rules.specs.HirScope.Bindings.{Candidate, macro_candidate, type_candidate, value_candidate, with_item_definition, with_item_visibility, written_places}
+use Rattle.hir_collector_rules.specs.HirScope.Bindings.{Candidate, macro_candidate, type_candidate, value_candidate}
+use Rattle.hir_collector_rules.specs.HirScope.Bindings.{with_item_definition, with_item_visibility, written_places}
 use Rattle.hir_collector_rules.specs.HirScope.Entries.{item_at}
 use Rattle.hir_collector_rules.specs.HirScope.Globs.{GlobNames, Place, has_place, with_place, without_place}
 use Rattle.hir_collector_rules.specs.HirScope.ImportRecords.{is_glob}

@@ -24,8 +24,10 @@ use Rattle.hir_collector_rules.specs.HirIds.declared.ids.AdtId.TheVariants as ad
 use Rattle.hir_collector_rules.specs.HirIds.declared.ids.ModuleDefId.TheVariants as definitions
 use Rattle.hir_collector_rules.specs.HirIds.declared.macro_kind.MacroId.TheVariants as macros
 use Rattle.hir_collector_rules.specs.HirItemTree.Imports.{imports_of}
-use Rattle.hir_collector_rules.specs.HirItemTree.KeptForest.{Head, Leaf, KeptItem, KeptForest, leaf, holder, import, extern_crate, function, structure, union_structure}
-use Rattle.hir_collector_rules.specs.HirItemTree.KeptForest.{enumeration, constant, static_item, trait_item, implementation, type_alias, outline_module, macro_call, macro_rules}
+use Rattle.hir_collector_rules.specs.HirItemTree.KeptForest.{Head, Leaf, KeptItem, KeptForest, leaf, holder, import}
+use Rattle.hir_collector_rules.specs.HirItemTree.KeptForest.{extern_crate, function, structure, union_structure}
+use Rattle.hir_collector_rules.specs.HirItemTree.KeptForest.{enumeration, constant, static_item, trait_item, implementation}
+use Rattle.hir_collector_rules.specs.HirItemTree.KeptForest.{type_alias, outline_module, macro_call, macro_rules}
 use Rattle.hir_collector_rules.specs.HirItemTree.KeptForest.{macro_def}
 use Rattle.hir_collector_rules.specs.HirRawVisibility.declared.raw_visibility.RawVisibility.{RawVisibility}
 use Rattle.hir_collector_rules.specs.HirBase.declared.tree_id.TreeId.{TreeId}
@@ -54,12 +56,14 @@ use Rattle.hir_collector_rules.specs.HirDefMapRules.WellFormed.{AreWellFormed}
 use Rattle.hir_collector_rules.proofs.HirDefMapRules.NoneOf.{neither, none_at, none_inserted_last, not_first, not_second}
 use Rattle.hir_collector_rules.specs.HirDefMapRules.Reaches.{by_import}
 use Rattle.hir_collector_rules.specs.HirDefMapRules.Scoping.{Resolution, resolution_of}
-use Rattle.hir_collector_rules.specs.HirDefMapRules.Sources.{HoldsNowhere, HoldsNowhereIn, HoldsOfNone, HoldsOfNoExtern, PathsAnswerFromSources, SourceTest, on_def, on_extern}
+use Rattle.hir_collector_rules.specs.HirDefMapRules.Sources.{HoldsNowhere, HoldsNowhereIn, HoldsOfNone, HoldsOfNoExtern}
+use Rattle.hir_collector_rules.specs.HirDefMapRules.Sources.{PathsAnswerFromSources, SourceTest, on_def, on_extern}
 use Rattle.hir_collector_rules.specs.HirDefMapRules.Sources.{on_extern_entry, on_import, on_macro, on_origin, on_some, on_values, on_variant, on_visibility}
 use Rattle.hir_collector_rules.specs.HirDefMapRules.State.{CrateData, Local, MacroDataValue, Map, crate_root, new_id, root_of, with_extern, with_prelude}
 use Rattle.hir_collector_rules.specs.HirDefMapRules.Overlay.{Maps, entry_in, overlay, module_in}
 use Rattle.hir_collector_rules.proofs.HirDefMapRules.StaysWellFormed.{IsClosed-overlay, LocalIsThere-begins, module_there}
-use Rattle.hir_collector_rules.proofs.HirDefMapRules.StaysSourced.{HoldsNowhere-overlay, HoldsNowhereIn-enum, HoldsNowhereIn-listed, HoldsNowhereIn-made, HoldsNowhereIn-prelude}
+use Rattle.hir_collector_rules.proofs.HirDefMapRules.StaysSourced.{HoldsNowhere-overlay, HoldsNowhereIn-enum, HoldsNowhereIn-listed}
+use Rattle.hir_collector_rules.proofs.HirDefMapRules.StaysSourced.{HoldsNowhereIn-made, HoldsNowhereIn-prelude}
 use Rattle.hir_collector_rules.specs.HirDefMapRules.Visibilities.{by_visibility, module_seen, path_seen, type_seen}
 use Rattle.hir_collector_rules.specs.declared.declaration.Declaration.{Declaration}
 use Rattle.hir_collector_rules.specs.declared.source_database.Dependency.{Dependency}
@@ -69,7 +73,8 @@ use Rattle.hir_collector_rules.specs.declared.site.Site.{Site}
 use Rattle.hir_collector_rules.specs.declared.start.Start.{Start}
 use Rattle.hir_collector_rules.specs.declared.start.Start.TheVariants as starts
 use Rattle.hir_collector_rules.specs.HirGlobImports.Moves.{brought_vis, shown as shown_along}
-use Rattle.hir_collector_rules.specs.HirGlobImports.Rules.{Rule as GlobRule, May as MayAlong, acts as glob_acts, brings, copies, copies_along, follows, follows_along, raises}
+use Rattle.hir_collector_rules.specs.HirGlobImports.Rules.{Rule as GlobRule, May as MayAlong, acts as glob_acts, brings}
+use Rattle.hir_collector_rules.specs.HirGlobImports.Rules.{copies, copies_along, follows, follows_along, raises}
 use Rattle.hir_collector_rules.specs.HirGlobImports.Rules.{raises_along}
 use Rattle.hir_collector_rules.specs.HirGlobImports.View.{View}
 use Rattle.hir_collector_rules.specs.HirGlobImports.declared.edge.Bound.{Bound}
@@ -88,7 +93,8 @@ use Rattle.hir_collector_rules.specs.HirImportRules.declared.directive.ImportDir
 use Rattle.hir_collector_rules.specs.HirImportRules.declared.directive.ImportSource.{ImportSource}
 use Rattle.hir_collector_rules.specs.HirImportRules.declared.directive.ImportSource.TheVariants as sources
 use Rattle.hir_collector_rules.specs.Derivation.{CollectedValue, Ends, leftover_reports}
-use Rattle.hir_collector_rules.specs.HirImportRules.Directives.{answer_in, answer_to, edge_to, glob_of, is_one_name, kept_by_kind, kept_trait, kind_of, leaf_of, name_of}
+use Rattle.hir_collector_rules.specs.HirImportRules.Directives.{answer_in, answer_to, edge_to, glob_of, is_one_name}
+use Rattle.hir_collector_rules.specs.HirImportRules.Directives.{kept_by_kind, kept_trait, kind_of, leaf_of, name_of}
 use Rattle.hir_collector_rules.specs.HirImportRules.Directives.{offered_by, open_items, visibility_of, way_of}
 use Rattle.hir_collector_rules.specs.Imports.{extern_by}
 use Rattle.hir_collector_rules.specs.HirImportRules.Visibilities.{visibility_in}
@@ -115,7 +121,7 @@ use Rattle.hir_collector_rules.specs.Steps.{inside_file, inside_module}
 use Rattle.hir_def_collector_laws.specs.Whole.{StandsOnWhole}
 use Rattle.hir_collector_rules.specs.Workspace.{Workspace, dependencies_in, transitive_dependencies_in}
 use Rattle.hir_collector_rules.specs.HirTables.Tables.{TablesValue}
-use Rattle.hir_collector_rules.specs.Keys.{Environment, environment, map_keys}
+use Rattle.hir_collector_rules.specs.Keys.{Environment, environment, keys_behind}
 use Rattle.hir_collector_rules.specs.ModuleFiles.{file_key}
 use Rattle.hir_collector_rules.specs.declared.source_database.Key.TheVariants as keys
 use Rattle.hir_collector_rules.proofs.Asks.{still_asked, still_asked-Step}
@@ -846,7 +852,7 @@ module _ (t : SourceTest) where
       let derived : Steps env finished begun e.last = subst (λ (x : Maps). Steps env x begun e.last) same e.derived in
       let asked : AreClear t e.last =
       λ key h. clear.written key (subst (λ (ks : List Key). Contains ks (keys.Tree key)) (sym e.asked_is)
-      (Contains-append_left e.last.core.asked (map_keys (transitive_dependencies_in w (krate_of from.start))) (keys.Tree key) h)) in
+      (Contains-append_left e.last.core.asked (keys_behind (krate_of from.start) (transitive_dependencies_in w (krate_of from.start))) (keys.Tree key) h)) in
       let root : t.holder from.tree.file from.tree.block ≡ false =
       asked (tree_key from.start from.tree) (still_asked derived (root_key from.start from.tree) (0, omega arith, refl)) in
       let first : IsSourced t begun = first_sourced (read_by w all from.start) (subst (HoldsNowhere t) (sym same) clear.read) tables w holders from

@@ -32,8 +32,10 @@ use Rattle.hir_collector_rules.proofs.HirDefMapRules.StaysSourced.{HoldsNowhereI
 use Rattle.hir_collector_rules.specs.HirDefMapRules.Ancestors.{above_in}
 use Rattle.hir_collector_rules.specs.HirDefMapRules.Overlay.{Maps, Placed, entry_in, overlay}
 use Rattle.hir_collector_rules.specs.HirDefMapRules.Scoping.Segments.{variant_in}
-use Rattle.hir_collector_rules.specs.HirDefMapRules.Sources.{HoldsNowhere, HoldsNowhereIn, HoldsOfNone, SourceTest, on_def, on_import, on_macro, on_macro_item, on_macros_in}
-use Rattle.hir_collector_rules.specs.HirDefMapRules.Sources.{on_some, on_type, on_types_in, on_value, on_value_def, on_value_import, on_values, on_values_in, on_variant}
+use Rattle.hir_collector_rules.specs.HirDefMapRules.Sources.{HoldsNowhere, HoldsNowhereIn, HoldsOfNone, SourceTest, on_def}
+use Rattle.hir_collector_rules.specs.HirDefMapRules.Sources.{on_import, on_macro, on_macro_item, on_macros_in}
+use Rattle.hir_collector_rules.specs.HirDefMapRules.Sources.{on_some, on_type, on_types_in, on_value, on_value_def}
+use Rattle.hir_collector_rules.specs.HirDefMapRules.Sources.{on_value_import, on_values, on_values_in, on_variant}
 use Rattle.hir_collector_rules.specs.HirDefMapRules.Sources.{on_visibility}
 use Rattle.hir_collector_rules.specs.HirDefMapRules.State.{Map, ModuleValue, Variants, at_name, entry_of, module_at, numbered, variants_at, with_scope}
 use Rattle.hir_collector_rules.specs.HirMapParts.declared.enum_variants.EnumVariant.{EnumVariant}

@@ -21,7 +21,8 @@ use Rattle.hir_collector_rules.specs.HirPerNs.declared.visibility.Visibility.{Vi
 use Rattle.hir_collector_rules.specs.HirPerNs.declared.visibility.Visibility.TheVariants.{PubCrate}
 use Rattle.hir_collector_rules.specs.HirDefMapRules.Closed.{ModuleIsThere}
 use Rattle.hir_collector_rules.specs.HirDefMapRules.Overlay.{Maps, overlay}
-use Rattle.hir_collector_rules.specs.HirDefMapRules.Sources.{HoldsNowhereIn, SourceTest, on_def, on_import, on_item, on_macro, on_macro_item, on_some, on_value, on_value_def}
+use Rattle.hir_collector_rules.specs.HirDefMapRules.Sources.{HoldsNowhereIn, SourceTest, on_def, on_import, on_item}
+use Rattle.hir_collector_rules.specs.HirDefMapRules.Sources.{on_macro, on_macro_item, on_some, on_value, on_value_def}
 use Rattle.hir_collector_rules.specs.HirDefMapRules.Sources.{on_value_import, on_values, on_visibility}
 use Rattle.hir_collector_rules.specs.HirDefMapRules.State.{Map, with_module_scope, with_scope}
 use Rattle.hir_collector_rules.proofs.HirDefMapRules.Grown.{length-changed}

@@ -28,7 +28,8 @@ use Rattle.hir_collector_rules.specs.HirPerNs.declared.visibility.Visibility.The
 use Rattle.hir_collector_rules.specs.HirDefMapRules.Ancestors.{above_in}
 use Rattle.hir_collector_rules.proofs.HirDefMapRules.NoneOf.{neither, none_inserted, not_first, not_second}
 use Rattle.hir_collector_rules.specs.HirDefMapRules.Scoping.{Resolution}
-use Rattle.hir_collector_rules.specs.HirDefMapRules.Sources.{HoldsOfNone, SourceTest, on_def, on_import, on_macro, on_macro_item, on_some, on_type, on_value, on_value_def}
+use Rattle.hir_collector_rules.specs.HirDefMapRules.Sources.{HoldsOfNone, SourceTest, on_def, on_import, on_macro, on_macro_item}
+use Rattle.hir_collector_rules.specs.HirDefMapRules.Sources.{on_some, on_type, on_value, on_value_def}
 use Rattle.hir_collector_rules.specs.HirDefMapRules.Sources.{on_value_import, on_values, on_variant, on_visibility}
 use Rattle.hir_collector_rules.specs.HirDefMapRules.State.{Map, Variants}
 use Rattle.hir_collector_rules.specs.HirDefMapRules.Overlay.{Maps, overlay}
@@ -36,7 +37,8 @@ use Rattle.hir_collector_rules.specs.HirImportRules.declared.directive.ImportSou
 use Rattle.hir_collector_rules.specs.HirImportRules.declared.directive.ImportSource.TheVariants as sources
 use Rattle.hir_collector_rules.specs.declared.site.Site.{Site}
 use Rattle.hir_collector_rules.specs.Enums.{variant_of, variants_of, with_variant}
-use Rattle.hir_collector_rules.specs.HirImportRules.Directives.{answer_by_kind, answer_by_source, brought, brought_type, imported, is_of_extern_crate, kept_by_kind}
+use Rattle.hir_collector_rules.specs.HirImportRules.Directives.{answer_by_kind, answer_by_source, brought, brought_type}
+use Rattle.hir_collector_rules.specs.HirImportRules.Directives.{imported, is_of_extern_crate, kept_by_kind}
 use Rattle.hir_collector_rules.specs.HirImportRules.Directives.{open_items}
 use Rattle.hir_collector_rules.specs.Imports.{reached_import}
 use Rattle.hir_collector_rules.specs.HirImportRules.Visibilities.{is_public, lesser_in}

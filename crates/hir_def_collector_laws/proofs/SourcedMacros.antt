@@ -24,7 +24,8 @@ use Rattle.hir_collector_rules.specs.HirScope.Scope.{ScopeValue}
 use Rattle.hir_collector_rules.specs.HirPerNs.declared.imports.ImportOrExternCrate.{ImportOrExternCrate}
 use Rattle.hir_collector_rules.specs.HirDefMapRules.Overlay.{Maps, Placed}
 use Rattle.hir_collector_rules.specs.HirDefMapRules.References.{crate_map}
-use Rattle.hir_collector_rules.specs.HirDefMapRules.Sources.{HoldsNowhere, HoldsNowhereIn, SourceTest, on_extern, on_import, on_legacy_in, on_macro, on_macro_item, on_macro_use}
+use Rattle.hir_collector_rules.specs.HirDefMapRules.Sources.{HoldsNowhere, HoldsNowhereIn, SourceTest, on_extern, on_import}
+use Rattle.hir_collector_rules.specs.HirDefMapRules.Sources.{on_legacy_in, on_macro, on_macro_item, on_macro_use}
 use Rattle.hir_collector_rules.specs.HirDefMapRules.Sources.{on_macros_in, on_some, on_values, on_visibility}
 use Rattle.hir_collector_rules.specs.HirDefMapRules.State.{Map, ModuleValue, module_at, scope_at, with_name, with_scope}
 use Rattle.hir_collector_rules.proofs.HirDefMapRules.NoneOf.{neither, none_at, none_found, none_inserted, not_first, not_second}

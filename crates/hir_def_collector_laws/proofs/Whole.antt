@@ -52,21 +52,26 @@ use Rattle.hir_collector_rules.proofs.HirDefMapRules.NoneOf.{neither, none_at, n
 use Rattle.hir_collector_rules.specs.HirDefMapRules.Inner.OverlayLaws.{same_id}
 use Rattle.hir_collector_rules.specs.HirDefMapRules.Closed.{AreThere, IsThere, IsClosed, PathsLeadToWhatIsThere, VisibilityIsThere}
 use Rattle.hir_collector_rules.specs.HirDefMapRules.WellFormed.{AreWellFormed, HasNoDanglingExtern, Extends, HasNoDanglingReference}
-use Rattle.hir_collector_rules.proofs.HirDefMapRules.WellFormed.{HasNoDanglingExtern-more, IsClosed-well_formed, HasNoDanglingReference-more, held_there, none_missing}
+use Rattle.hir_collector_rules.proofs.HirDefMapRules.WellFormed.{HasNoDanglingExtern-more, IsClosed-well_formed, HasNoDanglingReference-more}
+use Rattle.hir_collector_rules.proofs.HirDefMapRules.WellFormed.{held_there, none_missing}
 use Rattle.hir_def_map.proofs.Naming.{held_outside}
 use Rattle.hir_collector_rules.specs.HirDefMapRules.Declaration.{listed}
 use Rattle.hir_collector_rules.specs.HirDefMapRules.Macros.{with_exported, with_macro_data, with_macro_def}
-use Rattle.hir_collector_rules.specs.HirDefMapRules.References.{any_own_crate, any_reference_in, crate_map, is_holder_for, is_missing, reference_to, prelude_reference}
+use Rattle.hir_collector_rules.specs.HirDefMapRules.References.{any_own_crate, any_reference_in, crate_map, is_holder_for}
+use Rattle.hir_collector_rules.specs.HirDefMapRules.References.{is_missing, reference_to, prelude_reference}
 use Rattle.hir_collector_rules.specs.HirDefMapRules.References.{test_crate, test_of, test_item, test_visibility, FailsAtItem, FailsAtMacro}
 use Rattle.hir_collector_rules.specs.HirDefMapRules.Reaches.{by_import}
 use Rattle.hir_collector_rules.specs.HirDefMapRules.Scoping.{Resolution, resolution_of}
 use Rattle.hir_collector_rules.specs.HirDefMapRules.Scoping.Segments.{variant_in}
 use Rattle.hir_collector_rules.specs.HirDefMapRules.Scoping.Asking.{local_of}
 use Rattle.hir_collector_rules.specs.HirDefMapRules.Scoping.Start.{crate_root}
-use Rattle.hir_collector_rules.specs.HirDefMapRules.State.{CrateData, IsBefore, Local, MacroDataValue, Map, ModuleValue, Variants, entry_at, entry_of, module_at, new_id}
-use Rattle.hir_collector_rules.specs.HirDefMapRules.State.{new_module, numbered, root_of, with_declared, with_enum, with_extern, with_prelude, with_module, with_scope, at_name}
+use Rattle.hir_collector_rules.specs.HirDefMapRules.State.{CrateData, IsBefore, Local, MacroDataValue, Map, ModuleValue}
+use Rattle.hir_collector_rules.specs.HirDefMapRules.State.{Variants, entry_at, entry_of, module_at, new_id}
+use Rattle.hir_collector_rules.specs.HirDefMapRules.State.{new_module, numbered, root_of, with_declared, with_enum, with_extern}
+use Rattle.hir_collector_rules.specs.HirDefMapRules.State.{with_prelude, with_module, with_scope, at_name}
 use Rattle.hir_collector_rules.specs.HirDefMapRules.Overlay.{Maps, Placed, entry_in, overlay, placed_in, module_in, variants_in}
-use Rattle.hir_collector_rules.proofs.HirDefMapRules.StaysWellFormed.{Extends-overlay, Extends-grown, Extends-made, Extends-scope, IsClosed-overlay, LocalIsThere-begins}
+use Rattle.hir_collector_rules.proofs.HirDefMapRules.StaysWellFormed.{Extends-overlay, Extends-grown, Extends-made, Extends-scope}
+use Rattle.hir_collector_rules.proofs.HirDefMapRules.StaysWellFormed.{IsClosed-overlay, LocalIsThere-begins}
 use Rattle.hir_collector_rules.proofs.HirDefMapRules.StaysWellFormed.{HasNoDanglingReference-prelude, module_there, new_there, Extends-enum}
 use Rattle.hir_collector_rules.specs.declared.declaration.Declaration.{Declaration}
 use Rattle.hir_collector_rules.specs.declared.source_database.Dependency.{Dependency}
@@ -92,7 +97,8 @@ use Rattle.hir_collector_rules.specs.ItemIds.{enum_id, extern_crate_id, function
 use Rattle.hir_collector_rules.specs.Items.{declaration_of, declared_module, declared_type, file_origin, inline_origin, own_visibility}
 use Rattle.hir_collector_rules.specs.HirImportRules.Visibilities.{visibility_in, greater_in}
 use Rattle.hir_collector_rules.specs.Enums.{variants_of}
-use Rattle.hir_collector_rules.specs.HirImportRules.Directives.{answer_in, answer_to, is_one_name, kept_by_kind, kept_trait, kind_of, leaf_of, name_of, offered_by}
+use Rattle.hir_collector_rules.specs.HirImportRules.Directives.{answer_in, answer_to, is_one_name, kept_by_kind}
+use Rattle.hir_collector_rules.specs.HirImportRules.Directives.{kept_trait, kind_of, leaf_of, name_of, offered_by}
 use Rattle.hir_collector_rules.specs.HirImportRules.Directives.{open_items, visibility_of, edge_to, path_answer, target_among, target_at, target_by}
 use Rattle.hir_collector_rules.specs.HirImportRules.Changes.{along, keeps_trait, pushes, kept_vis, Change as ImportChange}
 use Rattle.hir_collector_rules.specs.HirImportRules.Names.{ScopesValue, bound_at, bound_by, bound_of, bound_trait, entries_of, is_foreign, items_by, traits_of}

@@ -15,8 +15,10 @@ use Rattle.hir_collector_rules.specs.HirIds.declared.ids.ModuleId.{ModuleId}
 use Rattle.hir_collector_rules.specs.HirIds.declared.ids.TraitId.{TraitId}
 use Rattle.hir_collector_rules.specs.HirIds.declared.ids.UseId.{UseId}
 use Rattle.hir_collector_rules.specs.HirIds.declared.ids.ModuleDefId.TheVariants as definitions
-use Rattle.hir_collector_rules.specs.HirItemTree.KeptForest.{Head, Leaf, KeptItem, leaf, holder, import, extern_crate, function, structure, union_structure, enumeration}
-use Rattle.hir_collector_rules.specs.HirItemTree.KeptForest.{constant, static_item, trait_item, implementation, type_alias, outline_module, macro_call, macro_rules, macro_def}
+use Rattle.hir_collector_rules.specs.HirItemTree.KeptForest.{Head, Leaf, KeptItem, leaf, holder, import, extern_crate}
+use Rattle.hir_collector_rules.specs.HirItemTree.KeptForest.{function, structure, union_structure, enumeration}
+use Rattle.hir_collector_rules.specs.HirItemTree.KeptForest.{constant, static_item, trait_item, implementation, type_alias}
+use Rattle.hir_collector_rules.specs.HirItemTree.KeptForest.{outline_module, macro_call, macro_rules, macro_def}
 use Rattle.hir_collector_rules.specs.HirUseTree.declared.imports.Import.{Import}
 use Rattle.hir_collector_rules.specs.HirUseTree.declared.imports.ImportKind.{ImportKind}
 use Rattle.hir_collector_rules.specs.HirUseTree.declared.imports.ImportKind.TheVariants as import_kinds
@@ -42,13 +44,15 @@ use Rattle.hir_collector_rules.specs.HirDefMapRules.WellFormed.{AreWellFormed, H
 use Rattle.hir_collector_rules.proofs.HirDefMapRules.WellFormed.{HasNoDanglingExtern-more, IsClosed-well_formed, HasNoDanglingReference-more, none_missing}
 use Rattle.hir_collector_rules.specs.HirDefMapRules.Declaration.{listed}
 use Rattle.hir_collector_rules.specs.HirDefMapRules.Macros.{with_derive_helper, with_exported, with_macro_data, with_macro_def}
-use Rattle.hir_collector_rules.specs.HirDefMapRules.References.{crate_map, is_missing, reference_to, test_crate, test_of, any_reference_in, are_variants_of, test_visibility}
+use Rattle.hir_collector_rules.specs.HirDefMapRules.References.{crate_map, is_missing, reference_to, test_crate, test_of}
+use Rattle.hir_collector_rules.specs.HirDefMapRules.References.{any_reference_in, are_variants_of, test_visibility}
 use Rattle.hir_collector_rules.specs.HirDefMapRules.References.{visibility_reference}
 use Rattle.hir_collector_rules.specs.HirDefMapRules.Scoping.{Resolution}
 use Rattle.hir_collector_rules.specs.HirDefMapRules.Scoping.Start.{crate_root}
 use Rattle.hir_collector_rules.specs.HirDefMapRules.State.{Local, Map, ModuleValue, module_at, numbered, with_scope}
 use Rattle.hir_collector_rules.specs.HirDefMapRules.Overlay.{Maps, overlay}
-use Rattle.hir_collector_rules.proofs.HirDefMapRules.StaysWellFormed.{Extends-grown, Extends-made, Extends-scope, HasNoDanglingReference-listed, HasNoDanglingReference-made}
+use Rattle.hir_collector_rules.proofs.HirDefMapRules.StaysWellFormed.{Extends-grown, Extends-made, Extends-scope, HasNoDanglingReference-listed}
+use Rattle.hir_collector_rules.proofs.HirDefMapRules.StaysWellFormed.{HasNoDanglingReference-made}
 use Rattle.hir_collector_rules.proofs.HirDefMapRules.StaysWellFormed.{Extends-enum, HasNoDanglingReference-enum, HasNoDanglingReference-scope}
 use Rattle.hir_collector_rules.specs.declared.declaration.Declaration.{Declaration}
 use Rattle.hir_collector_rules.specs.declared.source_database.Dependency.{Dependency}

@@ -15,13 +15,15 @@ use Rattle.hir_collector_rules.specs.HirIds.contracts.ids.ModuleDefIdPartialEq.T
 use Rattle.hir_collector_rules.specs.HirIds.declared.macro_kind.MacroId.TheVariants as macros
 use Rattle.hir_collector_rules.specs.HirPerNs.PerNs.{Item}
 use Rattle.hir_collector_rules.specs.HirScope.Scope.{ScopeValue}
-use Rattle.hir_collector_rules.specs.HirScope.Scope.Updates.{censored, censored_item, censored_macro, censored_macros, censored_scope, censored_vis, is_definition}
+use Rattle.hir_collector_rules.specs.HirScope.Scope.Updates.{censored, censored_item, censored_macro, censored_macros}
+use Rattle.hir_collector_rules.specs.HirScope.Scope.Updates.{censored_scope, censored_vis, is_definition}
 use Rattle.hir_collector_rules.specs.HirScopeTable.Entries.{item_at}
 use Rattle.hir_collector_rules.specs.HirPerNs.declared.imports.ImportId.{ImportId}
 use Rattle.hir_collector_rules.specs.HirPerNs.declared.imports.ImportOrExternCrate.{ImportOrExternCrate}
 use Rattle.hir_collector_rules.specs.HirPerNs.declared.imports.ImportOrGlob.{ImportOrGlob}
 use Rattle.hir_collector_rules.specs.HirPerNs.declared.visibility.Visibility.{Visibility}
-use Rattle.hir_collector_rules.specs.HirDefMapRules.References.{any_reference_in_scope, is_missing, reference_to, test_item, test_macro, test_of, test_trait, test_visibility}
+use Rattle.hir_collector_rules.specs.HirDefMapRules.References.{any_reference_in_scope, is_missing, reference_to, test_item}
+use Rattle.hir_collector_rules.specs.HirDefMapRules.References.{test_macro, test_of, test_trait, test_visibility}
 use Rattle.hir_collector_rules.specs.HirDefMapRules.Overlay.{Maps, overlay}
 use Rattle.hir_collector_rules.specs.HirDefMapRules.State.{with_scope}
 use Rattle.hir_collector_rules.specs.HirDefMapRules.WellFormed.{Extends, HasNoDanglingReference}

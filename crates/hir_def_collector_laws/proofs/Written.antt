@@ -15,8 +15,10 @@ use Rattle.hir_collector_rules.specs.HirIds.declared.ids.UseId.{UseId}
 use Rattle.hir_collector_rules.specs.HirItemTree.Collected.{Numbered, is_enabled}
 use Rattle.hir_collector_rules.specs.HirItemTree.Imports.{imports_of}
 use Rattle.hir_collector_rules.specs.HirItemTree.ItemTree.{Tree}
-use Rattle.hir_collector_rules.specs.HirItemTree.KeptForest.{Head, Holder, KeptItem, KeptForest, Leaf, constant, enumeration, extern_crate, function, holder, implementation}
-use Rattle.hir_collector_rules.specs.HirItemTree.KeptForest.{import, inline_module, item, leaf, macro_call, macro_def, macro_rules, no_items, outline_module, static_item}
+use Rattle.hir_collector_rules.specs.HirItemTree.KeptForest.{Head, Holder, KeptItem, KeptForest, Leaf, constant, enumeration}
+use Rattle.hir_collector_rules.specs.HirItemTree.KeptForest.{extern_crate, function, holder, implementation}
+use Rattle.hir_collector_rules.specs.HirItemTree.KeptForest.{import, inline_module, item, leaf, macro_call, macro_def}
+use Rattle.hir_collector_rules.specs.HirItemTree.KeptForest.{macro_rules, no_items, outline_module, static_item}
 use Rattle.hir_collector_rules.specs.HirItemTree.KeptForest.{structure, trait_item, type_alias, union_structure}
 use Rattle.hir_collector_rules.specs.HirItemTree.Kinds.{item_head}
 use Rattle.hir_collector_rules.specs.HirUseTree.UseTree.{count_of}

@@ -28,6 +28,7 @@ block_of_key (keys.Text id) = block_of_macro id
 block_of_key (keys.Input krate ast) = ast.block
 block_of_key (keys.Expansion id) = None
 block_of_key (keys.Map id) = None
+block_of_key (keys.Config krate) = None
 
 -- the test of what is written in a block
 abbrev pub in_blocks : SourceTest

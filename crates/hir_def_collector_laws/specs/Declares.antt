@@ -6,8 +6,10 @@ use Rattle.hir_collector_rules.specs.HirIds.declared.ids.AdtId.TheVariants as ad
 use Rattle.hir_collector_rules.specs.HirIds.declared.ids.ModuleDefId.TheVariants as definitions
 use Rattle.hir_collector_rules.specs.HirIds.declared.macro_kind.MacroId.TheVariants.{ProcMacroId}
 use Rattle.hir_collector_rules.specs.HirItemTree.Collected.{Numbered, is_enabled}
-use Rattle.hir_collector_rules.specs.HirItemTree.KeptForest.{Head, Holder, KeptForest, KeptItem, Leaf, constant, enumeration, extern_block, extern_crate, function, holder}
-use Rattle.hir_collector_rules.specs.HirItemTree.KeptForest.{implementation, import, inline_module, item, leaf, macro_call, macro_def, macro_rules, no_items, outline_module}
+use Rattle.hir_collector_rules.specs.HirItemTree.KeptForest.{Head, Holder, KeptForest, KeptItem, Leaf, constant, enumeration}
+use Rattle.hir_collector_rules.specs.HirItemTree.KeptForest.{extern_block, extern_crate, function, holder}
+use Rattle.hir_collector_rules.specs.HirItemTree.KeptForest.{implementation, import, inline_module, item, leaf, macro_call}
+use Rattle.hir_collector_rules.specs.HirItemTree.KeptForest.{macro_def, macro_rules, no_items, outline_module}
 use Rattle.hir_collector_rules.specs.HirItemTree.KeptForest.{static_item, structure, trait_item, type_alias, union_structure}
 use Rattle.hir_collector_rules.specs.HirItemTree.Kinds.{item_head}
 use Rattle.hir_collector_rules.specs.HirModDir.Directory.{Directory}

@@ -1,6 +1,7 @@
 //! What a run lists, leaves over and asks for. What the names of its modules stand for are sessions of `hir_session_rows`.
 mod blocks;
 mod files;
+mod handed_in;
 mod invocations;
 mod leftovers;
 mod traits;
@@ -206,7 +207,8 @@ fn lists(rt: HostRuntime) -> Result<(), Fail> {
     lists_of(&rt, rt.alloc(), &found)
 }
 
-/// The keys that a run asked for: those of its steps, and then the map of the crate on which it stands.
+/// The keys that a run asked for: those of its steps, then what its crate was handed in with, and then the map of the
+/// crate on which it stands, with what that was handed in with.
 #[test]
 fn asked_one_after_another(rt: HostRuntime) -> Result<(), Fail> {
     let found = collected::<Runs>(rt.alloc(), LOWER, ENUMS, false)?;
@@ -218,7 +220,9 @@ fn walks_all(rt: &impl Abort, found: &Collected) -> Result<(), Fail> {
     for key in found.asked.own() {
         assert!(rt; keys.next() == Some(*key));
     }
+    assert!(rt; keys.next() == Some(Key::Config(Crate(1))));
     assert!(rt; keys.next() == Some(Key::Map(MapId::of_crate(Crate(0)))));
+    assert!(rt; keys.next() == Some(Key::Config(Crate(0))));
     assert!(rt; keys.next().is_none());
     Ok(())
 }

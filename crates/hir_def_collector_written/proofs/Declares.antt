@@ -3,8 +3,10 @@ use Rattle.std.proofs.Common.{◌≡◌, ℕ, List, Option, None, Some, refl, ap
 use Rattle.hir_collector_rules.specs.HirIds.declared.macro_kind.MacroId.{MacroId}
 use Rattle.hir_collector_rules.specs.HirIds.declared.ids.ModuleDefId.{ModuleDefId}
 use Rattle.hir_collector_rules.specs.HirIds.declared.ids.ModuleDefId.TheVariants as definitions
-use Rattle.hir_collector_rules.specs.HirItemTree.KeptForest.{Head, Holder, KeptItem, Leaf, constant, enumeration, extern_block, extern_crate, function, holder, implementation}
-use Rattle.hir_collector_rules.specs.HirItemTree.KeptForest.{import, inline_module, leaf, macro_call, macro_def, macro_rules, outline_module, static_item, structure, trait_item}
+use Rattle.hir_collector_rules.specs.HirItemTree.KeptForest.{Head, Holder, KeptItem, Leaf, constant, enumeration, extern_block}
+use Rattle.hir_collector_rules.specs.HirItemTree.KeptForest.{extern_crate, function, holder, implementation}
+use Rattle.hir_collector_rules.specs.HirItemTree.KeptForest.{import, inline_module, leaf, macro_call, macro_def, macro_rules}
+use Rattle.hir_collector_rules.specs.HirItemTree.KeptForest.{outline_module, static_item, structure, trait_item}
 use Rattle.hir_collector_rules.specs.HirItemTree.KeptForest.{type_alias, union_structure}
 use Rattle.hir_collector_rules.specs.HirPerNs.PerNs.{Item}
 use Rattle.hir_collector_rules.specs.HirPerNs.declared.imports.ImportOrExternCrate.{ImportOrExternCrate}

@@ -14,11 +14,13 @@ use Rattle.hir_collector_rules.specs.HirPerNs.declared.imports.ImportOrExternCra
 use Rattle.hir_collector_rules.specs.HirPerNs.declared.item_in_ns.ItemInNs.TheVariants as in_ns
 use Rattle.hir_collector_rules.specs.HirDefMapRules.Declaration.{listed}
 use Rattle.hir_collector_rules.specs.HirDefMapRules.Overlay.{Maps}
-use Rattle.hir_collector_rules.specs.HirDefMapRules.State.{Map, ModuleValue, changed_at, entry_of, module_at, new_id, new_module, numbered, place_at, pushed_module, with_child}
+use Rattle.hir_collector_rules.specs.HirDefMapRules.State.{Map, ModuleValue, changed_at, entry_of, module_at, new_id}
+use Rattle.hir_collector_rules.specs.HirDefMapRules.State.{new_module, numbered, place_at, pushed_module, with_child}
 use Rattle.hir_collector_rules.specs.HirDefMapRules.State.{with_module_scope}
 use Rattle.hir_collector_rules.specs.HirGlobImports.Keys.{same_slot, slot_at}
 use Rattle.hir_collector_rules.specs.HirGlobImports.Moves.{brought_vis, may_raise}
-use Rattle.hir_collector_rules.specs.HirGlobImports.Rules.{BroughtBy, Rule as GlobRule, May as MayAlong, acts as glob_acts, brings, copies, copies_along, follows, follows_along}
+use Rattle.hir_collector_rules.specs.HirGlobImports.Rules.{BroughtBy, Rule as GlobRule, May as MayAlong, acts as glob_acts}
+use Rattle.hir_collector_rules.specs.HirGlobImports.Rules.{brings, copies, copies_along, follows, follows_along}
 use Rattle.hir_collector_rules.specs.HirGlobImports.Rules.{noted, raises, raises_along}
 use Rattle.hir_collector_rules.specs.HirGlobImports.View.{bound_in}
 use Rattle.hir_collector_rules.specs.HirGlobImports.declared.edge.Bound.{Bound}
@@ -28,7 +30,8 @@ use Rattle.hir_collector_rules.specs.HirGlobImports.declared.edge.Slot.{Slot}
 use Rattle.hir_collector_rules.specs.HirGlobImports.declared.edge.Target.{Target}
 use Rattle.hir_collector_rules.specs.HirGlobImports.declared.edge.Key.TheVariants.{Types, Values, Macros, Unnamed}
 use Rattle.hir_collector_rules.proofs.HirGlobImports.Settling.{same_itself}
-use Rattle.hir_collector_rules.specs.HirImportRules.Changes.{Change as ImportChange, along, forgotten, forgotten_in, keeps_trait, kept_vis, pushes, pushing, records, takes}
+use Rattle.hir_collector_rules.specs.HirImportRules.Changes.{Change as ImportChange, along, forgotten, forgotten_in}
+use Rattle.hir_collector_rules.specs.HirImportRules.Changes.{keeps_trait, kept_vis, pushes, pushing, records, takes}
 use Rattle.hir_collector_rules.specs.HirImportRules.ScopeLaws.{vacant_of}
 use Rattle.hir_collector_rules.specs.HirImportRules.Names.{bound_by, bound_of, entries_of, items_by, scope_table, trait_vis, view_of, with_trait}
 use Rattle.hir_collector_rules.specs.HirImportRules.State.{ImportState, glob_state, scopes_of}

@@ -13,7 +13,8 @@ use Rattle.hir_collector_rules.specs.HirItemTree.Collected.{Collected, Numbered 
 use Rattle.hir_collector_rules.specs.HirItemTree.Imports.{imports_of}
 use Rattle.hir_collector_rules.specs.HirItemTree.ItemTree.{Tree}
 use Rattle.hir_collector_rules.specs.HirItemTree.Kinds.{item_head}
-use Rattle.hir_collector_rules.specs.HirItemTree.KeptForest.{Head, KeptForest, KeptItem, constant, enumeration, extern_block, extern_crate, function, holder, implementation}
+use Rattle.hir_collector_rules.specs.HirItemTree.KeptForest.{Head, KeptForest, KeptItem, constant, enumeration, extern_block}
+use Rattle.hir_collector_rules.specs.HirItemTree.KeptForest.{extern_crate, function, holder, implementation}
 use Rattle.hir_collector_rules.specs.HirItemTree.KeptForest.{import, inline_module, macro_call, macro_def, macro_rules, outline_module}
 use Rattle.hir_collector_rules.specs.HirItemTree.UseTree.{UseTree}
 use Rattle.hir_collector_rules.specs.HirBase.declared.shape.ExternCrateName.{ExternCrateName}

@@ -2,8 +2,10 @@
 use Rattle.std.proofs.Common.{◌≡◌, ◌≤◌, ℕ, Bool, true, false, List, [], ◌∷◌, ◌++◌, Some, refl, subst, arith, append_assoc}
 use Rattle.hir_collector_rules.specs.HirItemTree.Collected.{is_enabled}
 use Rattle.hir_collector_rules.specs.HirItemTree.Kinds.{item_head}
-use Rattle.hir_collector_rules.specs.HirItemTree.KeptForest.{Head, Holder, KeptForest, KeptItem, Leaf, constant, enumeration, extern_crate, function, holder, implementation}
-use Rattle.hir_collector_rules.specs.HirItemTree.KeptForest.{import, item, leaf, macro_call, macro_def, macro_rules, no_items, outline_module, static_item, structure, trait_item}
+use Rattle.hir_collector_rules.specs.HirItemTree.KeptForest.{Head, Holder, KeptForest, KeptItem, Leaf, constant, enumeration}
+use Rattle.hir_collector_rules.specs.HirItemTree.KeptForest.{extern_crate, function, holder, implementation}
+use Rattle.hir_collector_rules.specs.HirItemTree.KeptForest.{import, item, leaf, macro_call, macro_def, macro_rules, no_items}
+use Rattle.hir_collector_rules.specs.HirItemTree.KeptForest.{outline_module, static_item, structure, trait_item}
 use Rattle.hir_collector_rules.specs.HirItemTree.KeptForest.{type_alias, union_structure}
 use Rattle.hir_collector_rules.specs.HirDefMapRules.Overlay.{Maps}
 use Rattle.hir_collector_rules.specs.HirDefMapRules.State.{Local, Map}

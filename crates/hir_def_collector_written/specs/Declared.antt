@@ -7,7 +7,8 @@ use Rattle.hir_collector_rules.specs.HirIds.declared.ids.ModuleDefId.TheVariants
 use Rattle.hir_collector_rules.specs.HirIds.declared.macro_kind.MacroId.TheVariants.{ProcMacroId}
 use Rattle.hir_collector_rules.specs.HirItemTree.Collected.{is_enabled}
 use Rattle.hir_collector_rules.specs.HirItemTree.Kinds.{item_head}
-use Rattle.hir_collector_rules.specs.HirItemTree.KeptForest.{Head, Holder, KeptItem, Leaf, enumeration, extern_block, function, holder, inline_module, leaf, macro_def}
+use Rattle.hir_collector_rules.specs.HirItemTree.KeptForest.{Head, Holder, KeptItem, Leaf, enumeration, extern_block}
+use Rattle.hir_collector_rules.specs.HirItemTree.KeptForest.{function, holder, inline_module, leaf, macro_def}
 use Rattle.hir_collector_rules.specs.HirItemTree.KeptForest.{macro_rules, outline_module}
 use Rattle.hir_collector_rules.specs.HirPerNs.PerNs.{Item}
 use Rattle.hir_collector_rules.specs.HirScope.Scope.Updates.{censored_item, censored_macro}

@@ -6,7 +6,8 @@ use Rattle.hir_collector_rules.specs.HirIds.declared.ast_id.EditionedFileId.{Edi
 use Rattle.hir_collector_rules.specs.HirIds.declared.macro_kind.MacroId.{MacroId}
 use Rattle.hir_collector_rules.specs.HirItemTree.Collected.{is_enabled}
 use Rattle.hir_collector_rules.specs.HirItemTree.Imports.{imports_of}
-use Rattle.hir_collector_rules.specs.HirItemTree.KeptForest.{Head, Holder, KeptForest, KeptItem, Leaf, extern_block, extern_crate, holder, import, inline_module, item, leaf}
+use Rattle.hir_collector_rules.specs.HirItemTree.KeptForest.{Head, Holder, KeptForest, KeptItem, Leaf, extern_block}
+use Rattle.hir_collector_rules.specs.HirItemTree.KeptForest.{extern_crate, holder, import, inline_module, item, leaf}
 use Rattle.hir_collector_rules.specs.HirItemTree.KeptForest.{no_items}
 use Rattle.hir_collector_rules.specs.HirItemTree.UseTree.{UseTree}
 use Rattle.hir_collector_rules.specs.HirBase.declared.tree_id.TreeId.{TreeId}

@@ -12,7 +12,8 @@ use Rattle.hir_nameres.specs.HirBase.declared.mod_path.PathKind.{PathKind}
 use Rattle.hir_nameres.specs.HirIds.declared.ids.UseId.{UseId}
 use Rattle.hir_nameres.specs.HirIds.declared.ids.AdtId.TheVariants as adts
 use Rattle.hir_nameres.specs.HirIds.declared.ids.ModuleId.{ModuleId as AnyModule}
-use Rattle.hir_nameres.specs.HirIds.declared.ids.ModuleDefId.TheVariants.{ModuleId, FunctionId, AdtId as AnyAdt, EnumVariantId, ConstId, StaticId, TraitId, TypeAliasId}
+use Rattle.hir_nameres.specs.HirIds.declared.ids.ModuleDefId.TheVariants.{ModuleId, FunctionId, AdtId as AnyAdt, EnumVariantId}
+use Rattle.hir_nameres.specs.HirIds.declared.ids.ModuleDefId.TheVariants.{ConstId, StaticId, TraitId, TypeAliasId}
 use Rattle.hir_nameres.specs.HirIds.declared.ids.ModuleDefId.TheVariants.{BuiltinType, MacroId}
 use Rattle.hir_nameres.specs.HirBase.declared.mod_path.PathKind.TheVariants as kinds
 use Rattle.hir_nameres.specs.HirPerNs.declared.imports.ImportOrExternCrate.{ImportOrExternCrate}
@@ -29,7 +30,8 @@ use Rattle.hir_nameres.specs.HirDefMapRules.Scoping.Blocks.{from_blocks, in_prel
 use Rattle.hir_nameres.specs.HirDefMapRules.Scoping.FirstSegment.{builtin_name, extern_name, is_block_root, legacy_bound, macro_use_bound, name_in_module}
 use Rattle.hir_nameres.specs.HirDefMapRules.Scoping.FirstSegment.{name_in_preludes, name_in_crate_root_or_extern_prelude, of_style, prelude_bound, prelude_name}
 use Rattle.hir_nameres.specs.HirDefMapRules.Scoping.FirstSegment.{prelude_of, shadow_before, unless_block_root, with_builtin}
-use Rattle.hir_nameres.specs.HirDefMapRules.Scoping.Segments.{after_enum, crossing, nearest_non_block_among, nearest_non_block_module, rest, seen, through, through_adt}
+use Rattle.hir_nameres.specs.HirDefMapRules.Scoping.Segments.{after_enum, crossing, nearest_non_block_among, nearest_non_block_module}
+use Rattle.hir_nameres.specs.HirDefMapRules.Scoping.Segments.{rest, seen, through, through_adt}
 use Rattle.hir_nameres.specs.HirDefMapRules.Scoping.Segments.{through_type, unresolved}
 use Rattle.hir_nameres.specs.HirDefMapRules.Scoping.Start.{abs_from, climb, from_start, is_edition_2015, is_dependency, is_import, is_in_reach, module_bound}
 use Rattle.hir_nameres.specs.HirDefMapRules.Scoping.Start.{is_in_edition_2015, settled_in_block, super_from}

@@ -16,7 +16,8 @@ use Rattle.hir_nameres.specs.HirIds.contracts.ids.MapIdPartialEq.TheImpl as map_
 use Rattle.hir_nameres.specs.HirDefMapRules.Inner.OverlayLaws.{exact_map}
 use Rattle.hir_nameres.specs.Inner.PartLaws.{among-only}
 use Rattle.hir_nameres.specs.HirDefMapRules.Ancestors.{frame_of, frames_of, holders_in, holders_of_frame}
-use Rattle.hir_nameres.specs.HirDefMapRules.References.{any_reference, any_reference_besides, any_reference_in, each_leads_to_root, has_its_parents, has_its_variants}
+use Rattle.hir_nameres.specs.HirDefMapRules.References.{any_reference, any_reference_besides, any_reference_in}
+use Rattle.hir_nameres.specs.HirDefMapRules.References.{each_leads_to_root, has_its_parents, has_its_variants}
 use Rattle.hir_nameres.specs.HirDefMapRules.References.{is_holder_for, is_missing, is_well_formed, prelude_reference, test_of}
 use Rattle.hir_nameres.specs.HirDefMapRules.State.{ModuleValue, module_at}
 use Rattle.hir_nameres.specs.HirDefMapRules.Overlay.{Maps, Placed, map_in, module_in, overlay, placed_in}

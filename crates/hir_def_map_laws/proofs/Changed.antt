@@ -16,12 +16,15 @@ use Rattle.hir_nameres.specs.HirPerNs.Visibility.{is_visible, stands_for}
 use Rattle.hir_nameres.specs.HirPerNs.declared.visibility.Visibility.{Visibility}
 use Rattle.hir_nameres.specs.HirPerNs.declared.visibility.Visibility.TheVariants.{Module, PubCrate, Public}
 use Rattle.hir_nameres.specs.HirDefMapRules.Inner.OverlayLaws.{exact_map}
-use Rattle.hir_nameres.specs.HirDefMapRules.Ancestors.{above_in, above_inside, above_under, frame_of, frames_of, holders_in, holders_of_frame, numbers_above, numbers_of}
+use Rattle.hir_nameres.specs.HirDefMapRules.Ancestors.{above_in, above_inside, above_under, frame_of, frames_of}
+use Rattle.hir_nameres.specs.HirDefMapRules.Ancestors.{holders_in, holders_of_frame, numbers_above, numbers_of}
 use Rattle.hir_nameres.specs.HirDefMapRules.Scoping.FirstSegment.{is_block_root, legacy_of}
 use Rattle.hir_nameres.specs.HirDefMapRules.Scoping.Segments.{nearest_non_block_among, nearest_non_block_module, seen, variant_in}
 use Rattle.hir_nameres.specs.HirDefMapRules.Scoping.Start.{climb, is_dependency, is_edition_2015, is_in_edition_2015, is_in_reach}
-use Rattle.hir_nameres.specs.HirDefMapRules.State.{Map, ModuleValue, Variants, at_name, entry_at, entry_of, module_at, numbered, parent_at, parent_of, variants_at}
-use Rattle.hir_nameres.specs.HirDefMapRules.Overlay.{Maps, Placed, overlay, entry_in, holders_of, holders_or, holders_under, map_in, module_in, parent_in, placed_in}
+use Rattle.hir_nameres.specs.HirDefMapRules.State.{Map, ModuleValue, Variants, at_name, entry_at, entry_of}
+use Rattle.hir_nameres.specs.HirDefMapRules.State.{module_at, numbered, parent_at, parent_of, variants_at}
+use Rattle.hir_nameres.specs.HirDefMapRules.Overlay.{Maps, Placed, overlay, entry_in, holders_of, holders_or}
+use Rattle.hir_nameres.specs.HirDefMapRules.Overlay.{holders_under, map_in, module_in, parent_in, placed_in}
 use Rattle.hir_nameres.specs.HirDefMapRules.declared.reference.Reference.{Reference}
 use Rattle.hir_nameres.specs.HirDefMapRules.declared.reference.Reference.TheVariants as named
 use Rattle.hir_nameres.specs.HirDefMapRules.References.{any_reference_in, test_of, Fails}

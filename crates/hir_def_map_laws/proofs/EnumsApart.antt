@@ -15,7 +15,8 @@ use Rattle.hir_nameres.specs.HirDefMapRules.Ancestors.{above_by, above_in, frame
 use Rattle.hir_nameres.specs.HirDefMapRules.Overlay.{Maps, Placed, entry_in, map_in, module_in, overlay, parent_in, placed_in}
 use Rattle.hir_nameres.specs.HirDefMapRules.Scoping.Asking.{Asking}
 use Rattle.hir_nameres.specs.HirDefMapRules.Scoping.FirstSegment.{builtin_name, extern_name, legacy_bound, legacy_of, macro_use_bound, macro_use_of}
-use Rattle.hir_nameres.specs.HirDefMapRules.Scoping.FirstSegment.{name_in_crate_root_or_extern_prelude, name_in_module, name_in_preludes, of_style, prelude_bound}
+use Rattle.hir_nameres.specs.HirDefMapRules.Scoping.FirstSegment.{name_in_crate_root_or_extern_prelude, name_in_module}
+use Rattle.hir_nameres.specs.HirDefMapRules.Scoping.FirstSegment.{name_in_preludes, of_style, prelude_bound}
 use Rattle.hir_nameres.specs.HirDefMapRules.Scoping.FirstSegment.{prelude_name, prelude_of, shadow_before, unless_block_root, with_builtin}
 use Rattle.hir_nameres.specs.HirDefMapRules.Scoping.Segments.{nearest_non_block_among, nearest_non_block_module, seen}
 use Rattle.hir_nameres.specs.HirDefMapRules.Scoping.Start.{climb, is_dependency, is_in_edition_2015, is_in_reach}

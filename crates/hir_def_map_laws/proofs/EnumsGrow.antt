@@ -12,7 +12,8 @@ use Rattle.hir_nameres.specs.HirBase.declared.mod_path.PathKind.{PathKind}
 use Rattle.hir_nameres.specs.HirIds.declared.ids.UseId.{UseId}
 use Rattle.hir_nameres.specs.HirIds.declared.ids.AdtId.TheVariants as adts
 use Rattle.hir_nameres.specs.HirIds.declared.ids.ModuleId.{ModuleId as AnyModule}
-use Rattle.hir_nameres.specs.HirIds.declared.ids.ModuleDefId.TheVariants.{ModuleId, FunctionId, AdtId as AnyAdt, EnumVariantId, ConstId, StaticId, TraitId, TypeAliasId}
+use Rattle.hir_nameres.specs.HirIds.declared.ids.ModuleDefId.TheVariants.{ModuleId, FunctionId, AdtId as AnyAdt, EnumVariantId}
+use Rattle.hir_nameres.specs.HirIds.declared.ids.ModuleDefId.TheVariants.{ConstId, StaticId, TraitId, TypeAliasId}
 use Rattle.hir_nameres.specs.HirIds.declared.ids.ModuleDefId.TheVariants.{BuiltinType, MacroId}
 use Rattle.hir_nameres.specs.HirBase.declared.mod_path.PathKind.TheVariants as kinds
 use Rattle.hir_nameres.specs.HirIds.contracts.ids.MapIdPartialEq.TheImpl as map_id
@@ -25,12 +26,15 @@ use Rattle.hir_nameres.specs.HirDefMapRules.Overlay.{Maps, Placed, map_in, overl
 use Rattle.hir_nameres.specs.HirDefMapRules.Scoping.{Resolution, resolution_of}
 use Rattle.hir_nameres.specs.HirDefMapRules.Scoping.Asking.{Asking}
 use Rattle.hir_nameres.specs.HirDefMapRules.Scoping.Blocks.{from_blocks}
-use Rattle.hir_nameres.specs.HirDefMapRules.Scoping.FirstSegment.{extern_name, is_block_root, name_in_crate_root_or_extern_prelude, name_in_module, shadow_before}
-use Rattle.hir_nameres.specs.HirDefMapRules.Scoping.Segments.{after_enum, crossing, nearest_non_block_module, rest, seen, through, through_adt, through_type, unresolved}
+use Rattle.hir_nameres.specs.HirDefMapRules.Scoping.FirstSegment.{extern_name, is_block_root, name_in_crate_root_or_extern_prelude}
+use Rattle.hir_nameres.specs.HirDefMapRules.Scoping.FirstSegment.{name_in_module, shadow_before}
+use Rattle.hir_nameres.specs.HirDefMapRules.Scoping.Segments.{after_enum, crossing, nearest_non_block_module, rest}
+use Rattle.hir_nameres.specs.HirDefMapRules.Scoping.Segments.{seen, through, through_adt, through_type, unresolved}
 use Rattle.hir_nameres.specs.HirDefMapRules.Scoping.Segments.{variant_in}
 use Rattle.hir_nameres.specs.Scoping.Slots.{further_slots, kept_in, module_among, prelude_module_of, reads, slots_after, slots_from_crates, slots_from_module}
 use Rattle.hir_nameres.specs.Scoping.Slots.{slots_from_root, slots_of, with_prelude_slot, with_slot}
-use Rattle.hir_nameres.specs.HirDefMapRules.Scoping.Start.{abs_from, climb, from_start, is_import, is_in_edition_2015, is_in_reach, module_bound, settled_in_block}
+use Rattle.hir_nameres.specs.HirDefMapRules.Scoping.Start.{abs_from, climb, from_start, is_import, is_in_edition_2015}
+use Rattle.hir_nameres.specs.HirDefMapRules.Scoping.Start.{is_in_reach, module_bound, settled_in_block}
 use Rattle.hir_nameres.specs.HirDefMapRules.Scoping.Start.{super_from}
 use Rattle.hir_nameres.specs.HirDefMapRules.State.{IsInOrder, Local, Map, Variants, at_name, crate_root, entry_at, numbered, variants_at}
 use Rattle.hir_nameres.specs.HirMapParts.declared.enum_variants.EnumVariant.{EnumVariant}

@@ -14,7 +14,8 @@ use Rattle.hir_nameres.specs.HirIds.declared.ids.ModuleDefId.{ModuleDefId}
 use Rattle.hir_nameres.specs.HirBase.declared.mod_path.PathKind.{PathKind}
 use Rattle.hir_nameres.specs.HirIds.declared.ids.AdtId.TheVariants as adts
 use Rattle.hir_nameres.specs.HirIds.declared.ids.ModuleId.{ModuleId as AnyModule}
-use Rattle.hir_nameres.specs.HirIds.declared.ids.ModuleDefId.TheVariants.{ModuleId, FunctionId, AdtId as AnyAdt, EnumVariantId, ConstId, StaticId, TraitId, TypeAliasId}
+use Rattle.hir_nameres.specs.HirIds.declared.ids.ModuleDefId.TheVariants.{ModuleId, FunctionId, AdtId as AnyAdt, EnumVariantId}
+use Rattle.hir_nameres.specs.HirIds.declared.ids.ModuleDefId.TheVariants.{ConstId, StaticId, TraitId, TypeAliasId}
 use Rattle.hir_nameres.specs.HirIds.declared.ids.ModuleDefId.TheVariants.{BuiltinType, MacroId}
 use Rattle.hir_nameres.specs.HirBase.declared.mod_path.PathKind.TheVariants as kinds
 use Rattle.hir_nameres.specs.HirIds.contracts.ids.MapIdPartialEq.TheImpl as map_id
@@ -29,12 +30,14 @@ use Rattle.hir_nameres.specs.HirDefMapRules.Ancestors.{above_in, holders_in}
 use Rattle.hir_nameres.specs.HirDefMapRules.References.{reference_to, test_of, test_visibility, Fails, FailsAtItem}
 use Rattle.hir_nameres.specs.HirDefMapRules.Scoping.Asking.{Asking}
 use Rattle.hir_nameres.specs.HirDefMapRules.Scoping.Blocks.{from_blocks, inherited}
-use Rattle.hir_nameres.specs.HirDefMapRules.Scoping.FirstSegment.{builtin_name, extern_bound, extern_name, legacy_bound, legacy_of, macro_use_bound, macro_use_name}
+use Rattle.hir_nameres.specs.HirDefMapRules.Scoping.FirstSegment.{builtin_name, extern_bound, extern_name, legacy_bound}
+use Rattle.hir_nameres.specs.HirDefMapRules.Scoping.FirstSegment.{legacy_of, macro_use_bound, macro_use_name}
 use Rattle.hir_nameres.specs.HirDefMapRules.Scoping.FirstSegment.{macro_use_of, name_in_crate_root_or_extern_prelude, name_in_module, of_style, prelude_name}
 use Rattle.hir_nameres.specs.HirDefMapRules.Scoping.FirstSegment.{shadow_before, unless_block_root, with_builtin}
 use Rattle.hir_nameres.specs.HirDefMapRules.Scoping.Segments.{after_enum, crossing, nearest_non_block_module, rest, seen, through, through_adt, through_module}
 use Rattle.hir_nameres.specs.HirDefMapRules.Scoping.Segments.{through_type, unresolved}
-use Rattle.hir_nameres.specs.HirDefMapRules.Scoping.Start.{abs_from, climb, from_start, is_import, is_in_edition_2015, module_bound, settled_in_block, super_from}
+use Rattle.hir_nameres.specs.HirDefMapRules.Scoping.Start.{abs_from, climb, from_start, is_import, is_in_edition_2015}
+use Rattle.hir_nameres.specs.HirDefMapRules.Scoping.Start.{module_bound, settled_in_block, super_from}
 use Rattle.hir_nameres.specs.HirDefMapRules.State.{Local, Map, at_name, crate_root, numbered}
 use Rattle.hir_nameres.specs.HirDefMapRules.Overlay.{Maps, entry_in, map_in, module_in}
 use Rattle.hir_nameres.specs.HirDefMapRules.declared.path_result.ReachedFixedPoint.TheVariants.{No}

@@ -12,7 +12,8 @@ use Rattle.hir_nameres.specs.HirIds.declared.ids.ModuleDefId.{ModuleDefId}
 use Rattle.hir_nameres.specs.HirBase.declared.mod_path.PathKind.{PathKind}
 use Rattle.hir_nameres.specs.HirIds.declared.ids.AdtId.TheVariants as adts
 use Rattle.hir_nameres.specs.HirIds.declared.ids.ModuleId.{ModuleId as AnyModule}
-use Rattle.hir_nameres.specs.HirIds.declared.ids.ModuleDefId.TheVariants.{ModuleId, FunctionId, AdtId as AnyAdt, EnumVariantId, ConstId, StaticId, TraitId, TypeAliasId}
+use Rattle.hir_nameres.specs.HirIds.declared.ids.ModuleDefId.TheVariants.{ModuleId, FunctionId, AdtId as AnyAdt, EnumVariantId}
+use Rattle.hir_nameres.specs.HirIds.declared.ids.ModuleDefId.TheVariants.{ConstId, StaticId, TraitId, TypeAliasId}
 use Rattle.hir_nameres.specs.HirIds.declared.ids.ModuleDefId.TheVariants.{BuiltinType, MacroId}
 use Rattle.hir_nameres.specs.HirBase.declared.mod_path.PathKind.TheVariants as kinds
 use Rattle.hir_nameres.specs.HirPerNs.ModuleTree.{same_block, same_crate}
@@ -25,10 +26,13 @@ use Rattle.hir_nameres.specs.HirDefMapRules.Ancestors.{above_in, holders_in}
 use Rattle.hir_nameres.specs.HirDefMapRules.References.{reference_to, test_of, test_visibility, Fails, FailsAtItem}
 use Rattle.hir_nameres.specs.HirDefMapRules.Scoping.Asking.{Asking}
 use Rattle.hir_nameres.specs.HirDefMapRules.Scoping.Blocks.{in_preludes, inherited, joined, with_preludes}
-use Rattle.hir_nameres.specs.HirDefMapRules.Scoping.FirstSegment.{builtin_name, extern_bound, extern_name, is_block_root, legacy_bound, macro_use_bound, macro_use_name}
-use Rattle.hir_nameres.specs.HirDefMapRules.Scoping.FirstSegment.{macro_use_of, name_in_crate_root_or_extern_prelude, name_in_module, name_in_preludes, of_style}
+use Rattle.hir_nameres.specs.HirDefMapRules.Scoping.FirstSegment.{builtin_name, extern_bound, extern_name, is_block_root}
+use Rattle.hir_nameres.specs.HirDefMapRules.Scoping.FirstSegment.{legacy_bound, macro_use_bound, macro_use_name}
+use Rattle.hir_nameres.specs.HirDefMapRules.Scoping.FirstSegment.{macro_use_of, name_in_crate_root_or_extern_prelude}
+use Rattle.hir_nameres.specs.HirDefMapRules.Scoping.FirstSegment.{name_in_module, name_in_preludes, of_style}
 use Rattle.hir_nameres.specs.HirDefMapRules.Scoping.FirstSegment.{prelude_name, shadow_before, unless_block_root, with_builtin}
-use Rattle.hir_nameres.specs.HirDefMapRules.Scoping.Segments.{after_enum, crossing, nearest_non_block_module, rest, seen, through, through_adt, through_type, unresolved}
+use Rattle.hir_nameres.specs.HirDefMapRules.Scoping.Segments.{after_enum, crossing, nearest_non_block_module, rest}
+use Rattle.hir_nameres.specs.HirDefMapRules.Scoping.Segments.{seen, through, through_adt, through_type, unresolved}
 use Rattle.hir_nameres.specs.HirDefMapRules.Scoping.Start.{abs_from, climb, from_start, is_import, module_bound, settled_in_block, super_from}
 use Rattle.hir_nameres.specs.HirDefMapRules.State.{Local, Map, at_name, crate_root}
 use Rattle.hir_nameres.specs.HirDefMapRules.Overlay.{entry_in, map_in}

@@ -19,7 +19,8 @@ use Rattle.hir_nameres.specs.HirScope.Scope.{ScopeValue, binding_of}
 use Rattle.hir_nameres.proofs.HirTextualScope.NewMacro.{other_names_keep_theirs}
 use Rattle.hir_nameres.specs.HirScope.Scope.Reads.{last_legacy_at}
 use Rattle.hir_nameres.specs.HirDefMapRules.Scoping.FirstSegment.{legacy_of}
-use Rattle.hir_nameres.specs.HirDefMapRules.State.{Local, Map, ModuleValue, changed_at, entry_at, entry_of, module_at, numbered, parent_at, parent_of, place_at, pushed}
+use Rattle.hir_nameres.specs.HirDefMapRules.State.{Local, Map, ModuleValue, changed_at, entry_at, entry_of, module_at}
+use Rattle.hir_nameres.specs.HirDefMapRules.State.{numbered, parent_at, parent_of, place_at, pushed}
 use Rattle.hir_nameres.specs.HirDefMapRules.State.{pushed_module, with_module_scope, with_scope}
 use Rattle.hir_nameres.proofs.HirDefMapRules.Grown.{kept}
 use Rattle.hir_def_map_laws.specs.ReadLaw.{AgreeAt, DiffersInScopes, Grows}

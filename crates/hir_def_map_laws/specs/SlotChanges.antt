@@ -18,7 +18,8 @@ use Rattle.hir_nameres.specs.HirPerNs.declared.per_ns.PerNs.{PerNs}
 use Rattle.hir_nameres.specs.HirPerNs.declared.visibility.Visibility.{Visibility}
 use Rattle.hir_nameres.specs.HirDefMapRules.Declaration.{listed}
 use Rattle.hir_nameres.specs.HirDefMapRules.Scoping.Asking.{Asking}
-use Rattle.hir_nameres.specs.HirDefMapRules.State.{Local, Map, Variants, new_module, numbered, pushed, variants_at, with_enum, with_extern, with_macro_use, with_module}
+use Rattle.hir_nameres.specs.HirDefMapRules.State.{Local, Map, Variants, new_module, numbered, pushed, variants_at}
+use Rattle.hir_nameres.specs.HirDefMapRules.State.{with_enum, with_extern, with_macro_use, with_module}
 use Rattle.hir_nameres.specs.HirDefMapRules.State.{with_scope}
 use Rattle.hir_nameres.specs.HirDefMapRules.Overlay.{Maps}
 use Rattle.hir_nameres.specs.HirDefMapRules.declared.declaration.Declaration.{Declaration}

@@ -15,7 +15,8 @@ use Rattle.hir_base.specs.declared.mod_path.PathKind.{PathKind}
 use Rattle.hir_scope.specs.HirIds.declared.ids.UseId.{UseId}
 use Rattle.hir_scope.specs.HirIds.declared.ids.AdtId.TheVariants as adts
 use Rattle.hir_scope.specs.HirIds.declared.ids.ModuleId.{ModuleId as AnyModule}
-use Rattle.hir_scope.specs.HirIds.declared.ids.ModuleDefId.TheVariants.{ModuleId, FunctionId, AdtId as AnyAdt, EnumVariantId, ConstId, StaticId, TraitId, TypeAliasId}
+use Rattle.hir_scope.specs.HirIds.declared.ids.ModuleDefId.TheVariants.{ModuleId, FunctionId, AdtId as AnyAdt, EnumVariantId}
+use Rattle.hir_scope.specs.HirIds.declared.ids.ModuleDefId.TheVariants.{ConstId, StaticId, TraitId, TypeAliasId}
 use Rattle.hir_scope.specs.HirIds.declared.ids.ModuleDefId.TheVariants.{BuiltinType, MacroId}
 use Rattle.hir_base.specs.declared.mod_path.PathKind.TheVariants as kinds
 use Rattle.hir_base.specs.Shape.{has_constructor}

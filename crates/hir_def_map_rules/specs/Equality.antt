@@ -32,7 +32,8 @@ use Rattle.hir_map_parts.specs.contracts.origin.ModuleOriginEq.TheImpl.Laws.{law
 use Rattle.hir_map_parts.specs.Inner.MacroEquality.{same_diagnostics, same_diagnostics_equiv, same_helpers, same_helpers_equiv, same_macro_data}
 use Rattle.hir_map_parts.specs.Inner.MacroEquality.{same_macro_data_equiv}
 use Rattle.hir_def_map_rules.specs.State.{Map, Modules, ModuleValue}
-pub use Rattle.hir_map_parts.specs.Equality.{Test, same_pair, same_by_name, same_variants, same_extern, same_local, same_settings, same_flags, same_data, same_pair_equiv, same_by_name_equiv, same_variants_equiv, same_local_equiv, same_data_equiv}
+pub use Rattle.hir_map_parts.specs.Equality.{Test, same_pair, same_by_name, same_variants, same_extern, same_local, same_settings, same_flags, same_data}
+pub use Rattle.hir_map_parts.specs.Equality.{same_pair_equiv, same_by_name_equiv, same_variants_equiv, same_local_equiv, same_data_equiv}
 
 -- whether two modules are written in one place, in one module, to be seen alike
 abbrev pub same_place : Test ModuleValue

@@ -19,7 +19,8 @@ use Rattle.hir_nameres.specs.HirPerNs.ModuleTree.{is_at_or_above, same_block, sa
 use Rattle.hir_nameres.specs.HirPerNs.Visibility.{both_in, greater_of, is_visible, stands_for}
 use Rattle.hir_nameres.specs.HirPerNs.declared.visibility.Visibility.{Visibility}
 use Rattle.hir_nameres.specs.HirPerNs.declared.visibility.Visibility.TheVariants.{Module, PubCrate, Public}
-use Rattle.hir_nameres.specs.HirDefMapRules.Ancestors.{above_in, above_inside, above_under, frame_of, frames_of, holders_in, leads_to_root, number_in, numbers_above}
+use Rattle.hir_nameres.specs.HirDefMapRules.Ancestors.{above_in, above_inside, above_under, frame_of, frames_of}
+use Rattle.hir_nameres.specs.HirDefMapRules.Ancestors.{holders_in, leads_to_root, number_in, numbers_above}
 use Rattle.hir_nameres.specs.HirDefMapRules.Ancestors.{numbers_of, step_in, step_to, steps_by, steps_from}
 use Rattle.hir_nameres.specs.HirDefMapRules.Inner.OverlayLaws.{exact_map, frame_holders, same_id}
 use Rattle.hir_nameres.specs.HirDefMapRules.Overlay.{Maps, Placed, holders_of, overlay, placed_in}

@@ -14,7 +14,8 @@ use Rattle.hir_nameres.specs.HirPerNs.declared.visibility.Visibility.{Visibility
 use Rattle.hir_nameres.specs.HirDefMapRules.Ancestors.{Frame, above_by, above_in, frame_of, frames_of, holders_by, holders_in}
 use Rattle.hir_nameres.specs.HirDefMapRules.Overlay.{Maps, Placed, entry_in, holders_or, holders_under, module_in, overlay, placed_in, variants_in}
 use Rattle.hir_nameres.specs.HirDefMapRules.Scoping.Segments.{variant_in}
-use Rattle.hir_nameres.specs.HirDefMapRules.State.{Map, ModuleValue, Variants, at_name, changed_at, entry_of, module_at, numbered, variants_at, with_module_scope}
+use Rattle.hir_nameres.specs.HirDefMapRules.State.{Map, ModuleValue, Variants, at_name, changed_at, entry_of}
+use Rattle.hir_nameres.specs.HirDefMapRules.State.{module_at, numbered, variants_at, with_module_scope}
 use Rattle.hir_nameres.specs.HirDefMapRules.State.{with_scope}
 use Rattle.hir_def_map_rules.proofs.Grown.{frame_of-changed}
 use Rattle.hir_def_map_laws.specs.ReadLaw.{DiffersInScopes}

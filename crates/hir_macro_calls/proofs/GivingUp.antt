@@ -17,7 +17,8 @@ use Rattle.hir_macro_calls.specs.declared.due.Due.{Due}
 use Rattle.hir_macro_calls.specs.declared.due.Due.TheVariants.{Derives, Nothing, Reaches, Skips}
 use Rattle.hir_collector_state.specs.HirCollectorRules.CallMoves.{FindsBuiltin, IsAttributeWaiting, IsFirstWaiting, NoneWaits, NoneWaitsBefore}
 use Rattle.hir_macro_calls.specs.Due.{IsDueOf}
-use Rattle.hir_collector_state.specs.HirCollectorRules.Calls.{IsWaiting, LeadsNowhere, builtin_impl, called_macro, expands_by, is_call, is_inert_by, is_inert_now, item_in}
+use Rattle.hir_collector_state.specs.HirCollectorRules.Calls.{IsWaiting, LeadsNowhere, builtin_impl, called_macro, expands_by}
+use Rattle.hir_collector_state.specs.HirCollectorRules.Calls.{is_call, is_inert_by, is_inert_now, item_in}
 use Rattle.hir_collector_state.specs.HirCollectorRules.Calls.{waiting_item}
 use Rattle.hir_collector_state.specs.HirCollectorRules.Keys.{Environment}
 use Rattle.hir_collector_state.specs.HirCollectorRules.State.{Core, Task, at_rest, joined}

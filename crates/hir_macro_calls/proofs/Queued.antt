@@ -72,7 +72,8 @@ module _ (env : Environment) (finished : Maps) (old : Core) where
             not_queued = ap (λ (ps : List ℕ). is_among k ps || is_among k (worklist_of q).later) over ∙ out;
           }
 
-  module _ (now new : Core) (i : ℕ) (inside : i < length old.calls) (fated : length old.fates ≡ length old.calls) (before after : List ℕ) (fewer : (k : ℕ) → is_among k after ≡ false → (i ≡ k) ⊎ (is_among k before ≡ false))
+  module _ (now new : Core) (i : ℕ) (inside : i < length old.calls) (fated : length old.fates ≡ length old.calls) (before after : List ℕ)
+      (fewer : (k : ℕ) → is_among k after ≡ false → (i ≡ k) ⊎ (is_among k before ≡ false))
       (so_far : Steps env finished (at_rest old) (at_rest now)) (step : Steps env finished (at_rest now) (at_rest new)) where
     abbrev Tried : Core → ℕ → Type 0
     Tried c k = (d : MacroDirective) → IsWaiting (at_rest old) k d → WasTried env finished (at_rest old) (at_rest c) k

@@ -57,7 +57,8 @@ joined_nothing g = go g.all
 inside_later : {A : Type 0} (xs ys : List A) (i : ℕ) → i < length xs → slice_get ys i ≡ slice_get xs i → i < length ys
 inside_later xs ys i low same = let there = get_there xs i low in get_inside ys i there.0 (same ∙ there.1)
 
-module _ (before : ImportState) (a b : Run) (old new : List PathSlot) (grew : Grew before (import_state (at_rest (core_in a))) old) (paired : length before.taken ≡ length before.imports) (slots : NotesSlots a b)
+module _ (before : ImportState) (a b : Run) (old new : List PathSlot) (grew : Grew before (import_state (at_rest (core_in a))) old)
+    (paired : length before.taken ≡ length before.imports) (slots : NotesSlots a b)
     (left : LeavesImports a b) (some : b.changed.all ≡ false) (untouched : (slot : PathSlot) → ¬ Contains new slot → IsUntouched b.changed slot)
     (unread : (slot : PathSlot) → ¬ Contains new slot → ¬ Contains old slot) where
   grew_on : Grew before (import_state (at_rest (core_in b))) new

@@ -168,7 +168,8 @@ module _ (finished : Maps) (q : CallQueue) (before now : Run) (waits : KeepsWait
       go a p d false e idle waiting = up.stands a p d idle (other_place i p e) (waits.before p d (inside_of up.count p idle) waiting)
 
 -- what has read what has changed is queued
-module _ (finished : Maps) (q r : CallQueue) (before now : Run) (noted : NotesSlots before now) (waits : KeepsWaiting (core_in before) (core_in now)) (woken : IsWoken now.changed q r) (apart : LiesApart finished r (core_in now)) where
+module _ (finished : Maps) (q r : CallQueue) (before now : Run) (noted : NotesSlots before now) (waits : KeepsWaiting (core_in before) (core_in now))
+    (woken : IsWoken now.changed q r) (apart : LiesApart finished r (core_in now)) where
   was_apart : is_apart r ≡ true → is_apart q ≡ true
   was_apart a = sym woken.on.apart ∙ a
 

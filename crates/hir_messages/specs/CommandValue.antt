@@ -8,7 +8,7 @@ use Rattle.hir_ids.specs.declared.edition.Edition.{Edition}
 use Rattle.hir_item_tree.specs.Attributes.{Attributes, attributes_view}
 use Rattle.hir_messages.specs.Types.{Command, CrateInput, Dependency, MacroStyle, Shadow}
 use Rattle.hir_messages.specs.Types.command
-use Rattle.hir_messages.specs.Edits.{EditValue, edit_view}
+use Rattle.hir_messages.specs.Edits.{CrateDataValue, EditValue, edit_view}
 
 -- a crate, as plain values
 pub record CrateInputValue : Type 0 where
@@ -29,6 +29,10 @@ crate_input_view k = record {
   attributes = attributes_view k.attrs.items;
   options = k.cfg.items;
 }
+
+-- the data of a crate that can be edited
+abbrev pub data_of_input : CrateInputValue → CrateDataValue
+data_of_input c = record { edition = c.edition; attributes = c.attributes; options = c.options; deps = c.deps }
 
 -- a command, as plain values
 pub data CommandValue : Type 0 where

@@ -1,9 +1,13 @@
 -- What does an edit hand in?
 use Rattle.std.specs.Prelude.{ℕ, List, Option}
+use Rattle.hir_base.specs.declared.cfg.CfgAtom.{CfgAtom}
 use Rattle.hir_base.specs.declared.place.BlockPlace.{BlockPlace}
+use Rattle.hir_ids.specs.declared.ids.Crate.{Crate}
+use Rattle.hir_ids.specs.declared.edition.Edition.{Edition}
+use Rattle.hir_item_tree.specs.Attributes.{Attributes, attributes_view}
 use Rattle.hir_item_tree.specs.Source.{SourceValue, source_view}
 use Rattle.hir_tables.specs.SourcePlaces.{ExpansionValue, expansion_value}
-use Rattle.hir_messages.specs.Types.{Edit, ExpansionEntry}
+use Rattle.hir_messages.specs.Types.{Dependency, Edit, ExpansionEntry}
 use Rattle.hir_messages.specs.Types.edit
 
 -- what an expansion gives: its syntax, and why it failed, if it did
@@ -14,6 +18,13 @@ pub record EntryValue : Type 0 where
 -- the plain value of an entry
 abbrev pub entry_view : ExpansionEntry → EntryValue
 entry_view e = record { source = source_view e.source; error = e.error }
+
+-- the data of a crate that can be edited: all but its root file, and whether it is a procedural macro's
+pub record CrateDataValue : Type 0 where
+  pub edition : Edition
+  pub attributes : Attributes
+  pub options : List CfgAtom
+  pub deps : List Dependency
 
 -- an edit, as plain values
 pub data EditValue : Type 0 where
@@ -29,6 +40,8 @@ pub data EditValue : Type 0 where
   set_expansion : ExpansionValue → EntryValue → EditValue
   -- an expansion that is taken away
   remove_expansion : ExpansionValue → EditValue
+  -- a crate, and the data that it gets
+  set_crate : Crate → CrateDataValue → EditValue
 
 -- the plain value of an edit
 abbrev pub edit_view : Edit → EditValue
@@ -38,3 +51,5 @@ edit_view (edit.SetBlock place source) = set_block place (source_view source)
 edit_view (edit.RemoveBlock place) = remove_block place
 edit_view (edit.SetExpansion key entry) = set_expansion (expansion_value key) (entry_view entry)
 edit_view (edit.RemoveExpansion key) = remove_expansion (expansion_value key)
+edit_view (edit.SetCrate krate edition attrs cfg deps) =
+    set_crate krate (record { edition = edition; attributes = attributes_view attrs.items; options = cfg.items; deps = deps })

@@ -1,9 +1,14 @@
 //! Edits of the input between two queries.
 
+use crate::command::Dependencies;
+use hir_base::cfg::CfgAtom;
+use hir_base::edition::Edition;
 use hir_base::file_path::FilePath;
+use hir_base::ids::Crate;
 use hir_base::macro_kind::ExpansionKey;
 use hir_base::place::BlockPlace;
 use hir_base::text::Text;
+use hir_item_tree::raw_attr::RawAttr;
 use hir_item_tree::source::Source;
 
 /// What a macro call expands to.
@@ -43,5 +48,15 @@ pub enum Edit {
     /// Removes what the macro calls with this key expand to, if it is set.
     RemoveExpansion {
         key: ExpansionKey,
+    },
+    /// Gives a crate other data. Its root file, and whether it is a procedural macro's, stay.
+    SetCrate {
+        krate: Crate,
+        edition: Edition,
+        /// The attributes at the crate's top that its root file doesn't write.
+        attrs: Vec<RawAttr>,
+        /// The options that are set.
+        cfg: Vec<CfgAtom>,
+        deps: Dependencies,
     },
 }

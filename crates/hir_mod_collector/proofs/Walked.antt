@@ -34,7 +34,8 @@ use Rattle.hir_collector_state.specs.HirCollectorRules.TreeReads.{visits_at, vis
 use Rattle.hir_collector_state.specs.HirCollectorRules.Reports.{IsUnconfigured}
 use Rattle.hir_collector_state.specs.HirCollectorRules.ItemIds.{module_id, node_of}
 use Rattle.hir_collector_state.specs.HirCollectorRules.Derivation.{IsFull, IsSpent, counted_out}
-use Rattle.hir_collector_state.specs.HirCollectorRules.Moves.{Drops, HandlesAndSpreads, HandlesTooFar, IsPassed, Passes, PassesTooFar, Walks, WalksTooFar, is_single}
+use Rattle.hir_collector_state.specs.HirCollectorRules.Moves.{Drops, HandlesAndSpreads, HandlesTooFar, IsPassed}
+use Rattle.hir_collector_state.specs.HirCollectorRules.Moves.{Passes, PassesTooFar, Walks, WalksTooFar, is_single}
 use Rattle.hir_attr_resolution.specs.Visiting.{IsVisited}
 use Rattle.hir_collector_state.proofs.HirCollectorRules.Lists.{drop_at, get_there}
 use Rattle.hir_collector_state.proofs.HirCollectorRules.Moves.{Steps-append, Steps-one, spent_after}
@@ -175,7 +176,8 @@ still_there-counted old new n is h = rw is h
 found : {A : Type 0} (o : Option A) (x : A) (P : A → Type 0) → o ≡ Some x → IfSome o P → P x
 found o x P e h = let p : IfSome (Some x) P = subst (λ (q : Option _). IfSome q P) e h in p
 
-module _ (tree : Tree) (n : ℕ) (h : Head) (c : Content) (there : n < length (all_items tree.items)) (head : IfSome (slice_get (all_items tree.items) n) (λ i. h ≡ item_head i))
+module _ (tree : Tree) (n : ℕ) (h : Head) (c : Content) (there : n < length (all_items tree.items))
+    (head : IfSome (slice_get (all_items tree.items) n) (λ i. h ≡ item_head i))
     (content : IfSome (slice_get (all_items tree.items) n) (λ i. item_of (all_items tree.items) (item_head i) c ≡ i)) where
   -- the item of a number, by its head and content
   one_whole : (i : KeptItem) → slice_get (all_items tree.items) n ≡ Some i → item_of (all_items tree.items) h c ≡ i
@@ -396,7 +398,8 @@ module _ (m : Map) (visited : Visited) (h : Head) (item : ModItemKind) where
   abbrev one : KeptItem
   one = item_of all h (kind_content item)
 
-  module _ (there : visited.id.0 < length all) (head : IfSome (slice_get all visited.id.0) (λ i. h ≡ item_head i)) (content : IfSome (slice_get all visited.id.0) (λ i. item_of all (item_head i) (kind_content item) ≡ i)) where
+  module _ (there : visited.id.0 < length all) (head : IfSome (slice_get all visited.id.0) (λ i. h ≡ item_head i))
+      (content : IfSome (slice_get all visited.id.0) (λ i. item_of all (item_head i) (kind_content item) ≡ i)) where
     kept_one : slice_get all visited.id.0 ≡ Some one
     kept_one =
         let i = get_there all visited.id.0 there in

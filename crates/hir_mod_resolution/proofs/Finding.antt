@@ -16,7 +16,8 @@ use Rattle.hir_collector_state.specs.HirDefMapRules.State.{Map}
 use Rattle.hir_collector_state.specs.HirDefMapRules.Overlay.{Maps}
 use Rattle.hir_collector_state.specs.HirCollectorRules.Workspace.{Workspace, seen_of}
 use Rattle.hir_collector_state.specs.HirCollectorRules.Keys.{environment, of_tree, source_in, source_under}
-use Rattle.hir_collector_state.specs.HirCollectorRules.ModuleFiles.{AreTried, IsNumberOf, IsTriedFile, LookedAt, ModuleFile, Tried, file_key, file_reading, file_readings}
+use Rattle.hir_collector_state.specs.HirCollectorRules.ModuleFiles.{AreTried, IsNumberOf, IsTriedFile, LookedAt, ModuleFile}
+use Rattle.hir_collector_state.specs.HirCollectorRules.ModuleFiles.{Tried, file_key, file_reading, file_readings}
 use Rattle.hir_collector_state.specs.HirCollectorRules.ModuleFiles.{file_tree, named_by, taken_by}
 use Rattle.hir_collector_state.specs.HirCollectorRules.State.{Core}
 use Rattle.hir_collector_state.specs.HirCollectorRules.Steps.{Sees, keys_read, with_keys}

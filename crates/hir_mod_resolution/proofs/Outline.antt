@@ -29,19 +29,22 @@ use Rattle.hir_collector_state.specs.HirCollectorRules.Keys.{Environment, enviro
 use Rattle.hir_collector_state.specs.HirCollectorRules.Items.{file_origin, inline_origin, own_visibility}
 use Rattle.hir_collector_state.specs.HirCollectorRules.ItemIds.{module_id, node_of}
 use Rattle.hir_collector_state.specs.HirIds.declared.ast_id.AstKind.TheVariants as nodes
-use Rattle.hir_collector_state.specs.HirCollectorRules.ModuleFiles.{AreTried, IsFileMeant, IsNumberOf, IsNumbered, IsSearch, ModuleFile, Search, Tried, file_tree, module_file}
+use Rattle.hir_collector_state.specs.HirCollectorRules.ModuleFiles.{AreTried, IsFileMeant, IsNumberOf, IsNumbered, IsSearch}
+use Rattle.hir_collector_state.specs.HirCollectorRules.ModuleFiles.{ModuleFile, Search, Tried, file_tree, module_file}
 use Rattle.hir_collector_state.specs.HirCollectorRules.ModuleFiles.{IsTriedFile}
 use Rattle.hir_collector_state.specs.HirCollectorRules.Macros.{is_macro_use}
 use Rattle.hir_collector_state.specs.HirCollectorRules.Reports.{IsUnresolvedModule}
 use Rattle.hir_collector_state.specs.HirCollectorRules.State.{Core, Task, Visit, visits, joined, visits_over}
-use Rattle.hir_collector_state.specs.HirCollectorRules.Steps.{LooksFor, none, behind, closing, drops_file, inside_file, keys_read, misses_file, module_declaration, opens_file}
+use Rattle.hir_collector_state.specs.HirCollectorRules.Steps.{LooksFor, none, behind, closing, drops_file, inside_file}
+use Rattle.hir_collector_state.specs.HirCollectorRules.Steps.{keys_read, misses_file, module_declaration, opens_file}
 use Rattle.hir_collector_state.specs.HirCollectorRules.Steps.{opens_module, path_of, search_readings, visit, visits_in_file, visits_inside, with_keys}
 use Rattle.hir_collector_state.specs.HirCollectorRules.NumberedOut.{IsNumberedOut, LacksFile, lacks_file}
 use Rattle.hir_collector_state.specs.HirCollectorRules.Derivation.{IsFull, IsSpent, counted_out, numbered_out}
 use Rattle.hir_mod_resolution.specs.Types.{Inside}
 use Rattle.hir_mod_resolution.specs.declared.modules.Inside.TheVariants.{Nothing, Held, File}
 use Rattle.hir_collector_state.specs.HirCollectorRules.Calls.{IsMeantAt}
-use Rattle.hir_collector_state.specs.HirCollectorRules.Moves.{DropsFile, Finds, Handles, HandlesTooFar, IsHeld, IsPassed, MayTake, OnceGrown, OpensFile, Tells, may_drop}
+use Rattle.hir_collector_state.specs.HirCollectorRules.Moves.{DropsFile, Finds, Handles, HandlesTooFar, IsHeld, IsPassed}
+use Rattle.hir_collector_state.specs.HirCollectorRules.Moves.{MayTake, OnceGrown, OpensFile, Tells, may_drop}
 use Rattle.hir_collector_state.specs.HirCollectorRules.Moves.{may_open, opened}
 use Rattle.hir_mod_resolution.specs.Walking.{GoesInside, TakesFile, tasks_of}
 use Rattle.hir_collector_state.proofs.Made.{Goes, goes, made, missed_after, opened_after}

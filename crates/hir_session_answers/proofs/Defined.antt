@@ -26,10 +26,11 @@ use Rattle.hir_session_state.specs.HirDefMapRules.Diagnostics.{call_node}
 use Rattle.hir_session_state.specs.HirDefMapRules.Overlay.{Maps}
 use Rattle.hir_session_state.specs.HirDefMapRules.State.{ModuleValue, module_at}
 use Rattle.hir_session_state.specs.HirMapParts.declared.origin.ModuleOrigin.{ModuleOrigin}
-use Rattle.hir_session_state.specs.HirCollectorRules.Calls.{AreCallsPlaced, Expanding, IsMeantAt, IsPlacedBelow, call_key, call_kind, call_loc, expansion_readings, kind_by}
+use Rattle.hir_session_state.specs.HirCollectorRules.Calls.{AreCallsPlaced, Expanding, IsMeantAt, IsPlacedBelow, call_key}
+use Rattle.hir_session_state.specs.HirCollectorRules.Calls.{call_kind, call_loc, expansion_readings, kind_by}
 use Rattle.hir_session_state.specs.HirCollectorRules.Calls.{text_readings}
 use Rattle.hir_session_state.specs.HirCollectorRules.Causes.{HasCause, IsOfCall, IsPassed}
-use Rattle.hir_session_state.specs.HirCollectorRules.Causes.HasCause.{root_tree, of_holder, declared_enum, candidate, of_call, dependency}
+use Rattle.hir_session_state.specs.HirCollectorRules.Causes.HasCause.{root_tree, of_holder, declared_enum, candidate, of_call, dependency, handed_in}
 use Rattle.hir_session_state.specs.HirCollectorRules.Derivation.{CollectedValue, Ends}
 use Rattle.hir_session_state.specs.HirCollectorRules.ModuleFiles.{file_key}
 use Rattle.hir_session_state.specs.HirCollectorRules.Start.{Beginning, held_keys, holder_keys, holders_by, origin_of, read_by, root_site, tree_key}
@@ -131,6 +132,7 @@ tree_by tables w all from last key (declared_enum home n listed is) = absurd (le
 tree_by tables w all from last key (candidate at passed of) = of_a_file at.core.map.id.krate at.core.map.crate_data.edition of.id (same_tree of.is)
 tree_by tables w all from last key (of_call at passed of) = of_a_call at passed of (tree_of_call at.core.map.id.krate of.call of.makro of.seen key of.among)
 tree_by tables w all from last key (dependency c among is) = absurd (let wrong : ⊥ = cc in wrong)
+tree_by tables w all from last key (handed_in c among is) = absurd (let wrong : ⊥ = cc in wrong)
 
 -- a block's tree is asked for only where a run begins with it
 pub tree_of_block : (tables : TablesValue) (w : Workspace) (all : Maps) (from : Beginning) (answer : CollectedValue) → Ends tables w all from answer
@@ -194,7 +196,8 @@ file_means tables f means = go (file_at tables f.file_id) means
     go None h = absurd (let wrong : ⊥ = cc in wrong)
     go (Some path) h = refl
 
-module _ (tables : TablesValue) (w : Workspace) (all : Maps) (from : Beginning) (answer : CollectedValue) (ends : Ends tables w all from answer) (meant : IsMeantAt tables (root_site from.tree))
+module _ (tables : TablesValue) (w : Workspace) (all : Maps) (from : Beginning) (answer : CollectedValue) (ends : Ends tables w all from answer)
+    (meant : IsMeantAt tables (root_site from.tree))
     (placed : AreCallsPlaced tables) (begun : IsOfFile from) where
   start_means : IsSome (file_at tables begun.root.file_id)
   start_means = go from.tree.file begun.tree (meant.file)

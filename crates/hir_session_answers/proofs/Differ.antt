@@ -1,5 +1,5 @@
 -- What is behind a place stays, or an edit altered a key that was asked for there.
-use Rattle.std.specs.Prelude.{is_none, if◌then◌else◌}
+use Rattle.std.specs.Prelude.{is_none, map, if◌then◌else◌}
 use Rattle.std.proofs.Common.{◌≡◌, ◌⊎◌, inl, inr, ℕ, nat_lt, Bool, true, false, cond, List, [], ◌∷◌, ◌++◌, length, Option, None, Some, Result, Ok, option_map}
 use Rattle.std.proofs.Common.{refl, sym, subst, ap, ◌∙◌, Contains}
 use Rattle.std.specs.Option.{option_and_then}
@@ -22,21 +22,22 @@ use Rattle.hir_session_state.specs.HirDefMapRules.Inner.OverlayLaws.{exact_map}
 use Rattle.hir_session_state.specs.HirDefMapRules.Sources.{PathsAnswerFromSources}
 use Rattle.hir_session_state.specs.HirDefMapRules.Overlay.{Maps, holders_of, overlay, no_maps}
 use Rattle.hir_session_state.specs.HirDefMapRules.State.{child_at, crate_map, root_of}
-use Rattle.hir_session_state.specs.HirCollectorRules.Workspace.{Workspace}
+use Rattle.hir_session_state.specs.HirCollectorRules.Workspace.{ConfigValue, Workspace, dependencies_of as handed_dependencies, earlier}
+use Rattle.hir_session_state.specs.HirCollectorRules.declared.source_database.Dependency.{Dependency}
 use Rattle.hir_session_state.specs.HirCollectorRules.Keys.{look}
 use Rattle.hir_session_state.specs.HirDefCollectorLaws.Sources.{RunsBindFromSources}
 use Rattle.hir_session_state.specs.HirCollectorRules.declared.source_database.Key.{Key}
-use Rattle.hir_session_state.specs.HirMessages.Edits.{EditValue}
+use Rattle.hir_session_state.specs.HirMessages.Edits.{CrateDataValue, EditValue}
 use Rattle.hir_session_state.specs.HirMessages.declared.answer.Answer.{Answer}
 use Rattle.hir_session_state.specs.HirMessages.declared.command.MacroStyle.{MacroStyle}
 use Rattle.hir_session_state.specs.HirMessages.declared.command.Shadow.{Shadow}
 use Rattle.hir_session_state.specs.HirMessages.declared.reply.Status.TheVariants as status
 use Rattle.hir_session_state.specs.declared.error.QueryError.{QueryError}
 use Rattle.hir_session_state.specs.Blocks.{Blocks}
-use Rattle.hir_session_state.specs.Crates.{CrateValue, dependency_maps, transitive_in}
+use Rattle.hir_session_state.specs.Crates.{CrateValue, config_in, dependency_maps, transitive_in, with_config}
+use Rattle.hir_session_state.specs.Inputs.{InputsValue, workspace_by}
 use Rattle.hir_session_state.specs.Kept.{Resolutions, kept_in, placed_by}
-use Rattle.hir_session_state.specs.SourceEdits.{edit_of, edited}
-use Rattle.hir_session_state.specs.SourceTable.{SourceTable}
+use Rattle.hir_session_state.specs.SourceEdits.{InputEdit, edit_of, edited, source_edit, crate_edit}
 use Rattle.hir_session_state.specs.SessionState.{SessionState, Resolution, workspace_of, finished_of, follows, follows_by, held_maps, read_of, kept_of}
 use Rattle.hir_session_state.specs.SessionState.{is_marked, module_of, standing_of, IsPlace, IsSound}
 use Rattle.hir_session_state.specs.SessionState.IsPlace.{of_block, of_crate}
@@ -49,7 +50,7 @@ use Rattle.hir_session_state.specs.Marks.{IsAltered, IsTouched}
 use Rattle.hir_session_state.specs.Marks.IsTouched.{before, asked_for}
 use Rattle.hir_session_state.specs.Due.{Grows, IsBehind, IsAskedBehind}
 use Rattle.hir_session_state.specs.Due.IsBehind.{itself, next}
-use Rattle.hir_session_state.specs.Changes.{Becomes, Applies, Resolves, with_sources}
+use Rattle.hir_session_state.specs.Changes.{Applies, AppliesTo, IsHandedIn, Resolves, SetsCrate}
 use Rattle.hir_session_answers.specs.Status.{status_by}
 use Rattle.hir_session_answers.specs.Answers.{answer_at, answer_by, answer_from, answer_in, answer_kept, answer_of}
 use Rattle.hir_session_answers.specs.Histories.{History, WasAltered, DifferOnlyWhereAltered}
@@ -58,15 +59,20 @@ use Rattle.hir_session_state.proofs.Depending.{found-any}
 use Rattle.hir_session_state.proofs.Holding.{holders_hold}
 use Rattle.hir_session_state.proofs.Following.{followed_crate}
 use Rattle.hir_session_state.proofs.Names.{of_some}
-use Rattle.hir_session_state.proofs.Standing.{down-append, standing_stays, unmarked}
-use Rattle.hir_session_state.proofs.Truth.{clash, no_value, on_bool, one_value}
-use Rattle.hir_session_state.proofs.Worlds.{crates_stay}
+use Rattle.hir_session_state.proofs.Renewed.{length_renewed, other_config, same_crates}
+use Rattle.hir_session_state.proofs.Resolving.{kept_there}
+use Rattle.hir_session_state.proofs.Standing.{down-append, kept_gives, standing_stays, unmarked}
+use Rattle.hir_session_state.proofs.Truth.{clash, no_value, on_bool, on_same, one_value}
+use Rattle.hir_session_state.proofs.Worlds.{crates_stay, kept_transitive}
 use Rattle.hir_session_answers.proofs.Growing.{kept_answer}
 use Rattle.hir_session_answers.proofs.LeftOut.{maps_behind, place_there, read_kept, whole}
 
 -- what is behind the place is as it was
 pub record IsSame (from to : SessionState) (id : MapId) : Type 0 where
-  pub crates : to.crates ≡ from.crates
+  pub count : length to.crates ≡ length from.crates
+  -- it stands on the same crates, and each place behind it depends on the same places
+  pub transitive : transitive_in to.crates id.krate.0 ≡ transitive_in from.crates id.krate.0
+  pub alike : (j : MapId) → IsBehind from id j → follows to j ≡ follows from j
   pub tables : KeepsTables from.tables to.tables
   pub off : (j : MapId) → IsBehind from id j → is_marked to j ≡ false
   pub kept : (j : MapId) → IsBehind from id j → kept_of to j ≡ kept_of from j
@@ -86,13 +92,21 @@ follows_alike from to id crates kept = go id.block
     go (Some b) = ap (λ (o : Option Resolution). crate_map id.krate ∷ held_maps o) kept
 
 -- all that was behind a place is unmarked where the place still is
-pub unmarked_still : {from to : SessionState} {k j : MapId} → to.crates ≡ from.crates → IsSound to
-    → ((i : MapId) → IsBehind from k i → is_marked to i ≡ false → kept_of to i ≡ kept_of from i) → is_marked to k ≡ false → IsBehind from k j → is_marked to j
+pub unmarked_still : {from to : SessionState} {k j : MapId} → IsSound to
+    → ((i : MapId) → IsBehind from k i → is_marked to i ≡ false → follows to i ≡ follows from i) → is_marked to k ≡ false → IsBehind from k j → is_marked to j
     ≡ false
-unmarked_still alike sound kept off itself = off
-unmarked_still {from} {to} alike sound kept off (next j d behind among) =
-    let still = unmarked_still alike sound kept off behind in
-    sound.closed j d still (subst (λ (ids : List MapId). Contains ids d) (sym (follows_alike from to j alike (kept j behind still))) among)
+unmarked_still sound alike off itself = off
+unmarked_still {from} {to} sound alike off (next j d behind among) =
+    let still = unmarked_still sound alike off behind in
+    sound.closed j d still (subst (λ (ids : List MapId). Contains ids d) (sym (alike j behind still)) among)
+
+-- a place of which the same is kept stands on the same crates
+same_transitive : {from to : SessionState} (id : MapId) → IsSound from → IsSound to → is_marked to id ≡ false → kept_of to id ≡ kept_of from id
+    → transitive_in to.crates id.krate.0 ≡ transitive_in from.crates id.krate.0
+same_transitive {from} {to} id sound_from sound_to off same =
+    let there = kept_there to id off in
+    sym (kept_transitive to id there.0 (kept_gives to sound_to id there.0 there.1))
+    ∙ kept_transitive from id there.0 (kept_gives from sound_from id there.0 (sym same ∙ there.1))
 
 -- what was marked shows a key that was altered
 pub what_marked : {from mid : SessionState} {k : MapId} (w : Workspace) → IsSame from mid k → {j : MapId} → Spread (follows mid) (IsTouched mid w) j
@@ -102,17 +116,19 @@ what_marked w same (here j (before m)) behind = clash m (same.off j behind)
 what_marked w same (here j (asked_for key r is has ne)) behind =
     (key, record { place = j; found = r; behind = behind; is = sym (same.kept j behind) ∙ is; asked = has }, ne)
 what_marked {from} {mid} w same (depends j d among sp) behind =
-    what_marked w same sp (next j d behind (subst (λ (ids : List MapId). Contains ids d) (follows_alike from mid j same.crates (same.kept j behind)) among))
+    what_marked w same sp (next j d behind (subst (λ (ids : List MapId). Contains ids d) (same.alike j behind) among))
 
--- the workspace that an accepted edit leaves is the edited one
-workspace-becomes : {old new : SessionState} {sources : SourceTable} → Becomes old sources new → workspace_of new ≡ workspace_of (with_sources old sources)
+-- the workspace that an accepted edit leaves is the one that was handed in
+workspace-becomes : {old new : SessionState} {inputs : InputsValue} → IsHandedIn old inputs new → workspace_of new ≡ workspace_by inputs
 workspace-becomes is = rw (is.crates, is.sources_are) refl
 
--- an edit leaves all that is behind the place as it was, or alters a key that was asked for there
-pub same_after_edit : {from mid to : SessionState} {k : MapId} (e : EditValue) → IsSame from mid k → Applies mid e to
+-- what is handed in leaves all that is behind the place as it was, or alters a key that was asked for there
+same_once_handed : {from mid to : SessionState} {k : MapId} (inputs : InputsValue) → IsSame from mid k → IsHandedIn mid inputs to
+    → length to.crates ≡ length mid.crates
+    → ((j : MapId) → is_marked to j ≡ false → kept_of to j ≡ kept_of mid j → follows to j ≡ follows mid j)
     → IsSame from to k ⊎ ((key : Key) × IsAskedBehind from k key × IsAltered mid.tables (workspace_of mid) (workspace_of to) key)
-same_after_edit {from} {mid} {to} {k} e same is = on_bool (is_marked to k)
-    (λ on. let hit = what_marked (workspace_of (with_sources mid (edited mid.sources (edit_of e)))) same (is.only k on) itself in
+same_once_handed {from} {mid} {to} {k} inputs same is count alike = on_bool (is_marked to k)
+    (λ on. let hit = what_marked (workspace_by inputs) same (is.only k on) itself in
     inr (
       hit.0,
       hit.1,
@@ -120,20 +136,65 @@ same_after_edit {from} {mid} {to} {k} e same is = on_bool (is_marked to k)
           (workspace-becomes is) h),
     ))
     (λ still.
-    let kept = λ (j : MapId) (behind : IsBehind from k j) (off : is_marked to j ≡ false). is.kept j off ∙ same.kept j behind in
-    let off = λ (j : MapId) (behind : IsBehind from k j). unmarked_still (is.crates ∙ same.crates) is.sound kept still behind in
+    let follow = λ (j : MapId) (behind : IsBehind from k j) (off : is_marked to j ≡ false). alike j off (is.kept j off) ∙ same.alike j behind in
+    let off = λ (j : MapId) (behind : IsBehind from k j). unmarked_still is.sound follow still behind in
     inl (record {
-      crates = is.crates ∙ same.crates;
+      count = count ∙ same.count;
+      transitive = same_transitive k same.sound is.sound still (is.kept k still) ∙ same.transitive;
+      alike = λ j behind. follow j behind (off j behind);
       tables = subst (λ (t : TablesValue). KeepsTables from.tables t) (sym is.tables) same.tables;
       off = off;
-      kept = λ j behind. kept j behind (off j behind);
+      kept = λ j behind. is.kept j (off j behind) ∙ same.kept j behind;
       sound = is.sound;
     }))
 
+-- ---- a crate that is handed in with other data
+
+-- a place that stays unmarked depends on what it did
+renewed_follows : (mid to : SessionState) (krate : Crate) (given : CrateDataValue) (is : SetsCrate mid krate given to) (j : MapId) → is_marked to j ≡ false
+    → kept_of to j ≡ kept_of mid j
+    → follows to j ≡ follows mid j
+renewed_follows mid to krate given is j off kept = go j.block refl
+  where
+    follows_of : Option ConfigValue → List MapId
+    follows_of o = map crate_map (earlier j.krate.0 (map (λ (d : Dependency). d.krate) (handed_dependencies o)))
+
+    of_crate_alone : j.block ≡ None → config_in to.crates j.krate ≡ config_in mid.crates j.krate
+    of_crate_alone alone = ap (λ (cs : List CrateValue). config_in cs j.krate) is.becomes.crates ∙ on_same j.krate.0 krate.0
+        (λ same. elim is.marks [
+          | inl as_before ↦ ap (λ (cs : List CrateValue). config_in cs j.krate) (same_crates mid.crates krate.0 is.config as_before)
+          | inr marked ↦
+              let own : crate_map krate ≡ j = λ i. record { krate = record { 0 = sym same i }; block = sym alone i } in
+              clash (sym (ap (is_marked to) own) ∙ marked) off
+        ])
+        (λ apart. other_config mid.crates krate.0 is.config j.krate apart)
+
+    go : (o : Option BlockId) → j.block ≡ o → follows_by to j o ≡ follows_by mid j o
+    go None alone = ap follows_of (of_crate_alone alone)
+    go (Some b) of = ap (λ (o : Option Resolution). crate_map j.krate ∷ held_maps o) kept
+
+-- an edit leaves all that is behind the place as it was, or alters a key that was asked for there
+pub same_after_edit : {from mid to : SessionState} {k : MapId} (e : EditValue) → IsSame from mid k → Applies mid e to
+    → IsSame from to k ⊎ ((key : Key) × IsAskedBehind from k key × IsAltered mid.tables (workspace_of mid) (workspace_of to) key)
+same_after_edit {from} {mid} {to} {k} e same is = go (edit_of e) is
+  where
+    go : (edit : InputEdit) → AppliesTo mid edit to → IsSame from to k ⊎ ((key : Key) × IsAskedBehind from k key
+        × IsAltered mid.tables (workspace_of mid) (workspace_of to) key)
+    go (source_edit change) is =
+        same_once_handed (record { crates = mid.crates; sources = edited mid.sources change }) same is (ap (λ (cs : List CrateValue). length cs) is.crates)
+        (λ j off kept. follows_alike mid to j is.crates kept)
+    go (crate_edit krate given) is =
+        same_once_handed (record { crates = with_config mid.crates krate.0 is.config; sources = mid.sources }) same is.becomes
+        (ap (λ (cs : List CrateValue). length cs) is.becomes.crates
+        ∙ length_renewed mid.crates krate.0 is.config)
+        (renewed_follows mid to krate given is)
+
 -- and a refresh leaves it so
 pub same_after_refresh : {from mid to : SessionState} {k : MapId} {done : List PlaceValue} → IsSame from mid k → Resolves mid done to → IsSame from to k
-same_after_refresh same is = record {
-  crates = is.crates ∙ same.crates;
+same_after_refresh {from} {mid} {to} {k} same is = record {
+  count = ap (λ (cs : List CrateValue). length cs) is.crates ∙ same.count;
+  transitive = ap (λ (cs : List CrateValue). transitive_in cs k.krate.0) is.crates ∙ same.transitive;
+  alike = λ j behind. follows_alike mid to j is.crates (is.others j (same.off j behind)) ∙ same.alike j behind;
   tables = KeepsTables-trans _ _ _ same.tables is.tables;
   off = λ j behind. ap (λ (o : Option Resolution). is_none o) (is.others j (same.off j behind)) ∙ same.off j behind;
   kept = λ j behind. is.others j (same.off j behind) ∙ same.kept j behind;
@@ -142,8 +203,10 @@ same_after_refresh same is = record {
 
 -- so it stays as tables grow
 pub same_once_grown : {from mid to : SessionState} {k : MapId} → IsSame from mid k → Grows mid to → IsSame from to k
-same_once_grown same grown = record {
-  crates = grown.crates ∙ same.crates;
+same_once_grown {from} {mid} {to} {k} same grown = record {
+  count = ap (λ (cs : List CrateValue). length cs) grown.crates ∙ same.count;
+  transitive = ap (λ (cs : List CrateValue). transitive_in cs k.krate.0) grown.crates ∙ same.transitive;
+  alike = λ j behind. follows_alike mid to j grown.crates (ap (λ (kept : Resolutions). kept_in kept j) grown.kept) ∙ same.alike j behind;
   tables = KeepsTables-trans _ _ _ same.tables grown.tables;
   off = λ j behind. ap (λ (kept : Resolutions). is_none (kept_in kept j)) grown.kept ∙ same.off j behind;
   kept = λ j behind. ap (λ (kept : Resolutions). kept_in kept j) grown.kept ∙ same.kept j behind;
@@ -152,7 +215,15 @@ same_once_grown same grown = record {
 
 pub same_at_first : {from : SessionState} {k : MapId} → IsSound from → is_marked from k ≡ false → IsSame from from k
 same_at_first sound off =
-    record { crates = refl; tables = KeepsTables-refl _; off = λ j behind. unmarked_behind sound off behind; kept = λ j behind. refl; sound = sound }
+    record {
+      count = refl;
+      transitive = refl;
+      alike = λ j behind. refl;
+      tables = KeepsTables-refl _;
+      off = λ j behind. unmarked_behind sound off behind;
+      kept = λ j behind. refl;
+      sound = sound;
+    }
 
 pub same_or_altered : {from : SessionState} {k : MapId} → IsSound from → is_marked from k ≡ false → {to : SessionState} → (h : History from to)
     → IsSame from to k ⊎ ((key : Key) × IsAskedBehind from k key × WasAltered key h)
@@ -179,7 +250,7 @@ same_or_altered sound off (numbers mid to earlier grown) = elim (same_or_altered
 pub same_read_of : {from to : SessionState} (id : MapId) (r : Resolution) → IsSound from → kept_of from id ≡ Some r → IsSame from to id → read_of to id
     ≡ read_of from id
 same_read_of {from} {to} id r sound is same =
-    (λ i. among (transitive_in (same.crates i) id.krate.0) (holders_of (finished i)) (finished_of to))
+    (λ i. among (same.transitive i) (holders_of (finished i)) (finished_of to))
     ∙ among_agrees (transitive_in from.crates id.krate.0) (holders_of (finished_of from id)) (finished_of to) (finished_of from)
     (λ j h. ap (option_map placed_by) (same.kept j (behind j h)))
   where
@@ -200,8 +271,8 @@ same_read_of {from} {to} id r sound is same =
     behind j h = elim (of_some (transitive_in from.crates id.krate.0) (holders_of (finished_of from id)) j h) [
       | inl crate ↦
           let own : j ≡ crate_map j.krate = λ i. record { krate = j.krate; block = crate.0 i } in
-          subst (IsBehind from id) (sym own) (crates_stay from sound from.sources from.kept (IsBehind from id) outwards (λ i b. refl) id.krate
-          (own_crate id.block refl) j.krate crate.1)
+          subst (IsBehind from id) (sym own) (crates_stay from sound from.crates from.sources from.kept (IsBehind from id) outwards (λ i b. refl) (λ i b. refl)
+          id.krate (own_crate id.block refl) j.krate crate.1)
       | inr held ↦
           let one = found-any (λ (m : ModuleId). map_id.ghosts.eq m.map j) (holders_of (finished_of from id)) held in
           subst (IsBehind from id) (exact_map one.0.map j one.2)
@@ -303,7 +374,7 @@ module _ {from to : SessionState} (id : MapId) (sound : IsSound from) (same : Is
   -- a place that leads into what is behind leads there still
   pub leads_still : (place : PlaceValue) (m : ModuleId) → standing_of from place ≡ way.at m → IsBehind from id m.map → standing_of to place ≡ way.at m
   leads_still place m leads behind =
-      standing_stays from sound (IsBehind from id) outwards_behind to.tables to.sources to.kept same.tables same.kept stays_set place m leads behind
+      standing_stays from sound (IsBehind from id) outwards_behind to.crates to.tables to.sources to.kept same.tables same.kept stays_set place m leads behind
 
   -- where a name isn't there in a map behind, it still isn't
   pub lacks_still : (place : PlaceValue) (j : MapId) → standing_of from place ≡ way.lacks j → IsBehind from id j → standing_of to place ≡ way.lacks j
@@ -363,7 +434,7 @@ module _ {from to : SessionState} (place : PlaceValue) (path : Path) (shadow : S
   alike_lacking id same lacks =
       ap (λ (st : Standing). answer_where place path shadow style to (length to.crates) st (module_of to place))
       (lacks_still id sound same place id lacks itself)
-      ∙ ap (λ (cs : List CrateValue). answer_where place path shadow style to (length cs) (way.lacks id) (module_of to place)) same.crates
+      ∙ ap (λ (n : ℕ). answer_where place path shadow style to n (way.lacks id) (module_of to place)) same.count
       ∙ unknown_over (nat_lt place.krate.0 (length from.crates)) (answer_kept to place path shadow style) (answer_kept from place path shadow style)
       ∙ ap (λ (st : Standing). answer_where place path shadow style from (length from.crates) st (module_of from place)) (sym lacks)
 
@@ -386,7 +457,7 @@ module _ {from to : SessionState} (place : PlaceValue) (path : Path) (shadow : S
         ∙ ap (λ (a : Answer). Ok a) all
         ∙ ap (λ (o : Option Resolution). answer_from from.tables (read_of from m.map) o m path shadow style) (sym there.is) in
         ap (λ (st : Standing). answer_where place path shadow style to (length to.crates) st (module_by st)) (leads_still m.map sound same place m at itself)
-        ∙ ap (λ (cs : List CrateValue). answer_where place path shadow style to (length cs) (way.at m) (Some m)) same.crates
+        ∙ ap (λ (n : ℕ). answer_where place path shadow style to n (way.at m) (Some m)) same.count
         ∙ ap (answer_by (if nat_lt place.krate.0 (length from.crates) then status.Current else status.Unknown)) over
         ∙ ap (λ (st : Standing). answer_where place path shadow style from (length from.crates) st (module_by st)) (sym at)
 

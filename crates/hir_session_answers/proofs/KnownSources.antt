@@ -21,7 +21,8 @@ use Rattle.hir_session_state.specs.HirNameres.WorldParts.{among}
 use Rattle.hir_session_state.specs.HirDefMapRules.Overlay.{Maps, Placed, overlay}
 use Rattle.hir_session_state.specs.HirDefMapRules.Scoping.{resolution_of}
 use Rattle.hir_session_state.specs.HirDefMapRules.Scoping.Asking.{local_of}
-use Rattle.hir_session_state.specs.HirDefMapRules.Sources.{HoldsNowhere, HoldsNowhereIn, HoldsOfNoExtern, HoldsOfNone, SourceTest, on_macro, on_macro_item, on_some}
+use Rattle.hir_session_state.specs.HirDefMapRules.Sources.{HoldsNowhere, HoldsNowhereIn, HoldsOfNoExtern, HoldsOfNone}
+use Rattle.hir_session_state.specs.HirDefMapRules.Sources.{SourceTest, on_macro, on_macro_item, on_some}
 use Rattle.hir_session_state.specs.HirDefMapRules.State.{crate_map}
 use Rattle.hir_session_state.proofs.HirDefMapRules.NoneOf.{not_first}
 use Rattle.hir_session_state.proofs.HirDefMapRules.StaysSourced.{HoldsNowhere-overlay}
@@ -39,7 +40,7 @@ use Rattle.hir_session_state.specs.Crates.{beginning_in, id_of, transitive_in}
 use Rattle.hir_session_state.specs.Kept.{Resolution, collected_of, placed_by}
 use Rattle.hir_session_state.specs.SessionState.{SessionState, finished_of, is_marked, kept_of, read_under, workspace_of, IsSound}
 use Rattle.hir_session_state.specs.Standing.{block_map}
-use Rattle.hir_session_state.proofs.Depending.{depended}
+use Rattle.hir_session_state.proofs.Depending.{depended, direct_below}
 use Rattle.hir_session_state.proofs.Resolving.{block_stands, block_whole, crate_whole, root_means, stands_on_whole}
 use Rattle.hir_session_state.proofs.Standing.{IsBlockBegun, kept_gives}
 use Rattle.hir_session_state.proofs.Truth.{no_value, one_value}
@@ -106,7 +107,7 @@ module _ (s : SessionState) (sound : IsSound s) (grown : TablesValue) (keeps : K
       (finished_of s) (beginning_in s.crates k)
   crate_known k within first =
       let behind : (c : Crate) → has_crate (transitive_in s.crates k) c ≡ true → is_marked s (crate_map c) ≡ false =
-      λ c behind. first c.0 (DependsOn-below sound.below ((depended sound k c).0 behind)) in
+      λ c behind. first c.0 (DependsOn-below (direct_below s) ((depended sound k c).0 behind)) in
       runs_meet grown (workspace_of s) (finished_of s) (beginning_in s.crates k) (crate_whole s k sound behind) (stands_on_whole s k sound behind) tt
       (site_kept s.tables grown keeps (root_site (beginning_in s.crates k).tree) (root_means s sound k within))
       (λ id placed e. (reads_numbered (transitive_in s.crates k) [] id placed e).0)

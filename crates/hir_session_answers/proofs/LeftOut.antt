@@ -37,8 +37,10 @@ use Rattle.hir_session_state.proofs.HirDefMapRules.NoneOf.{none_at, not_first, n
 use Rattle.hir_session_state.specs.HirDefMapRules.Scoping.{resolution_of}
 use Rattle.hir_session_state.specs.HirDefMapRules.Inner.OverlayLaws.{same_id}
 use Rattle.hir_session_state.specs.HirDefMapRules.Scoping.Asking.{Asking, local_of}
-use Rattle.hir_session_state.specs.HirDefMapRules.Sources.{HoldsNowhere, HoldsNowhereIn, HoldsOfNoExtern, HoldsOfNone, PathsAnswerFromSources, SourceTest, on_adt, on_def}
-use Rattle.hir_session_state.specs.HirDefMapRules.Sources.{on_import, on_macro, on_macro_item, on_origin, on_some, on_type, on_value, on_value_def, on_value_import}
+use Rattle.hir_session_state.specs.HirDefMapRules.Sources.{HoldsNowhere, HoldsNowhereIn, HoldsOfNoExtern, HoldsOfNone}
+use Rattle.hir_session_state.specs.HirDefMapRules.Sources.{PathsAnswerFromSources, SourceTest, on_adt, on_def}
+use Rattle.hir_session_state.specs.HirDefMapRules.Sources.{on_import, on_macro, on_macro_item, on_origin, on_some}
+use Rattle.hir_session_state.specs.HirDefMapRules.Sources.{on_type, on_value, on_value_def, on_value_import}
 use Rattle.hir_session_state.specs.HirDefMapRules.Sources.{on_visibility}
 use Rattle.hir_session_state.specs.HirDefMapRules.State.{ModuleValue, crate_map, module_at}
 use Rattle.hir_session_state.specs.HirDefMapRules.Overlay.{Maps, Placed, holders_of, overlay, module_in, placed_in}

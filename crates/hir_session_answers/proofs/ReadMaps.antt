@@ -26,7 +26,7 @@ use Rattle.hir_session_state.specs.Crates.{transitive_in}
 use Rattle.hir_session_state.specs.HirPerNs.ModuleTree.{same_crate}
 use Rattle.hir_session_state.specs.Kept.{Resolution, collected_of, placed_by}
 use Rattle.hir_session_state.specs.SessionState.{SessionState, finished_of, is_marked, kept_of, read_under, workspace_of, IsResolutionOf, IsSound}
-use Rattle.hir_session_state.proofs.Depending.{depended}
+use Rattle.hir_session_state.proofs.Depending.{depended, direct_below}
 use Rattle.hir_session_state.proofs.Following.{followed_crate}
 use Rattle.hir_session_state.proofs.Holding.{crate_holders, first_holder, holder_kept, in_own_crate, same_krate}
 use Rattle.hir_session_state.proofs.Names.{Extends-behind, holds, is_held_of_some, of_some, whole-among}
@@ -106,7 +106,7 @@ module _ (s : SessionState) (sound : IsSound s) where
       where
         by_crate : j.block ≡ None → has_crate (behind id.krate.0) j.krate ≡ true → rank j f < rank id r
         by_crate none has =
-            let before : j.krate.0 < id.krate.0 = DependsOn-below sound.below ((depended sound id.krate.0 j.krate).0 has) in
+            let before : j.krate.0 < id.krate.0 = DependsOn-below (direct_below s) ((depended sound id.krate.0 j.krate).0 has) in
             let alone : length f.holders ≡ 0 = ap (λ (ms : List ModuleId). length ms) (crate_holders s j f (kept_gives s sound j f there) none) in
             omega arith
 

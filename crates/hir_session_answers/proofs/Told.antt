@@ -1,4 +1,5 @@
--- Each diagnostic of a current crate is told: it is in a module of the crate's map, and about something that is written in a source, or in what a call expands to.
+-- Each diagnostic of a current crate is told: it is in a module of the crate's map, and about something that is written in a source, or in what a
+-- call expands to.
 use Rattle.std.specs.Prelude.{◌≡◌, Bool, true, not, is_some, List, [], ◌∷◌, length, map, nat_lt, Option, None, Some, option_map, Ok}
 use Rattle.std.specs.List.{cons_option}
 use Rattle.std.proofs.Common.{ap, refl, subst, sym, ◌∙◌}

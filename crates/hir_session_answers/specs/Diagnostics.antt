@@ -5,8 +5,10 @@ use Rattle.hir_session_state.specs.HirBase.Cfg.{cfg_text}
 use Rattle.hir_session_state.specs.HirIds.declared.ast_id.AstId.{AstId}
 use Rattle.hir_session_state.specs.HirIds.declared.ids.Crate.{Crate}
 use Rattle.hir_session_state.specs.HirTables.Tables.{TablesValue}
-use Rattle.hir_session_state.specs.HirDefMapRules.Diagnostics.{DiagnosticValue, KindValue, UnresolvedModule, UnresolvedExternCrate, UnresolvedImport, UnconfiguredCode}
-use Rattle.hir_session_state.specs.HirDefMapRules.Diagnostics.{UnresolvedMacroCall, UnimplementedBuiltinMacro, InvalidDeriveTarget, MalformedDerive, MacroDefError, MacroError}
+use Rattle.hir_session_state.specs.HirDefMapRules.Diagnostics.{DiagnosticValue, KindValue, UnresolvedModule, UnresolvedExternCrate}
+use Rattle.hir_session_state.specs.HirDefMapRules.Diagnostics.{UnresolvedImport, UnconfiguredCode}
+use Rattle.hir_session_state.specs.HirDefMapRules.Diagnostics.{UnresolvedMacroCall, UnimplementedBuiltinMacro, InvalidDeriveTarget}
+use Rattle.hir_session_state.specs.HirDefMapRules.Diagnostics.{MalformedDerive, MacroDefError, MacroError}
 use Rattle.hir_session_state.specs.HirDefMapRules.Diagnostics.{diagnostic_view, node_of}
 use Rattle.hir_session_state.specs.HirDefMapRules.Overlay.{Maps, overlay}
 use Rattle.hir_session_state.specs.HirMapParts.declared.diagnostics.DefDiagnostic.{DefDiagnostic}

@@ -28,8 +28,8 @@ WasAltered key (edit mid to e earlier is) = IsAltered mid.tables (workspace_of m
 WasAltered key (refresh mid to done earlier is) = WasAltered key earlier
 WasAltered key (numbers mid to earlier grown) = WasAltered key earlier
 
--- two answers to a query, of which the first was asked in a place whose steps end in a current map, differ only where an edit between them altered a key that was
--- asked for behind the first
+-- two answers to a query, of which the first was asked in a place whose steps end in a current map, differ only where an edit between them altered a
+-- key that was asked for behind the first
 abbrev pub DifferOnlyWhereAltered : Type 0
 DifferOnlyWhereAltered = (from to : SessionState) (place : PlaceValue) (id : MapId) (path : Path) (shadow : Shadow) (style : Option MacroStyle)
     → IsSound from → map_by (standing_of from place) ≡ Some id → (h : History from to)

@@ -109,9 +109,10 @@ module _ (old new : SessionState) (sound : IsSound old) (grown : Grows old new) 
       let q = block_begun old krate b from begun in
       let k = module_there old sound q.place.holder q.holder (at_module (standing_of old q.place.holder) q.holder q.held) in
       subst (λ (s : SessionState). beginning_of s (block_map krate b) ≡ Some from) with_tables
-      (beginning_stays old sound (λ j. is_marked old j ≡ false) (λ j d off among. sound.closed j d off among) new.tables old.sources old.kept grown.tables
+      (beginning_stays old sound (λ j. is_marked old j ≡ false) (λ j d off among. sound.closed j d off among) old.crates new.tables old.sources old.kept
+      grown.tables
       (λ j off. refl) (λ c place means off set. set)
-      (block_map krate b) from begun
+      (block_map krate b) (λ none. refl) from begun
       (λ h held.
       let same : h ≡ q.holder = one_value (sym held ∙ holder_begun old krate b from q) in
       subst (λ (x : ModuleId). is_marked old x.map ≡ false) (sym same) (unmarked old q.holder.map k.found k.is)))
@@ -125,7 +126,8 @@ pub record IsReady (s : SessionState) (krate : Crate) (b : BlockPlace) (number :
   pub begun : beginning_of s (block_map krate number) ≡ Some (begins_in_block krate number holder file b.id)
   pub behind : AreFollowedCurrent s (block_map krate number) (Some holder)
 
-module _ (old mid : SessionState) (sound : IsSound old) (grown : Grows old mid) (b : BlockPlace) (holder : ModuleId) (number : BlockId) (current : AreCratesCurrent old) (due : IsDueBlock old b)
+module _ (old mid : SessionState) (sound : IsSound old) (grown : Grows old mid) (b : BlockPlace) (holder : ModuleId) (number : BlockId)
+    (current : AreCratesCurrent old) (due : IsDueBlock old b)
     (held : module_of old b.holder ≡ Some holder) (means : block_at mid.tables number ≡ Some b) (numbered : block_number mid.tables b ≡ Some number) where
   abbrev own : MapId
   own = block_map b.holder.krate number
@@ -215,7 +217,8 @@ record BeginsHeld (s : SessionState) (krate : Crate) (b : BlockId) (from : Begin
   none : kept_of s (block_map krate b) ≡ None
   meant : IsMeantAt s.tables (root_site from.tree)
 
-module _ (s view : SessionState) (seen : s ≡ view) (krate : Crate) (b : BlockId) (holder : ModuleId) (file : EditionedFileId) (id : SyntaxId) (place : IsPlace view (block_map krate b))
+module _ (s view : SessionState) (seen : s ≡ view) (krate : Crate) (b : BlockId) (holder : ModuleId) (file : EditionedFileId) (id : SyntaxId)
+    (place : IsPlace view (block_map krate b))
     (on : is_marked view (block_map krate b) ≡ true) (begun : beginning_of view (block_map krate b) ≡ Some (begins_in_block krate b holder file id))
     (there : IsSome (file_at view.tables file.file_id))
     (behind : AreFollowedCurrent view (block_map krate b) (Some holder)) where

@@ -1,5 +1,6 @@
 pub mod Naming
 pub mod Sound
+pub mod CrateEdits
 pub mod Growth
 pub mod Due
 pub mod Pending

@@ -1,4 +1,5 @@
--- A map names those that it follows: those of the crates on which its own depends, and of a block that of its crate and the one in which the module lies that holds it.
+-- A map names those that it follows: those of the crates on which its own depends, and of a block that of its crate and the one in which the module
+-- lies that holds it.
 use Rattle.std.specs.Prelude.{is_some, map}
 use Rattle.std.specs.BTreeMap.{is_at}
 use Rattle.std.specs.List.{list_any}
@@ -11,7 +12,8 @@ use Rattle.hir_session_state.specs.HirIds.declared.ids.ModuleId.{ModuleId}
 use Rattle.hir_session_state.specs.HirIds.contracts.ids.MapIdOrd.TheImpl as map_order
 use Rattle.hir_session_state.specs.HirIds.contracts.ids.MapIdPartialEq.TheImpl as map_id
 use Rattle.hir_session_state.specs.HirDefMapRules.Inner.OverlayLaws.{same_id}
-use Rattle.hir_session_state.specs.HirDefMapRules.References.{lies_in, any_reference_in, refers_to, any_own_crate, any_reference, prelude_reference, test_crate, test_extern}
+use Rattle.hir_session_state.specs.HirDefMapRules.References.{lies_in, any_reference_in, refers_to, any_own_crate, any_reference}
+use Rattle.hir_session_state.specs.HirDefMapRules.References.{prelude_reference, test_crate, test_extern}
 use Rattle.hir_session_state.specs.HirDefMapRules.References.{test_of}
 use Rattle.hir_session_state.specs.HirDefMapRules.State.{Local, Map, crate_map}
 use Rattle.hir_session_state.specs.HirDefMapRules.WellFormed.{is_held_outside}
@@ -24,12 +26,12 @@ use Rattle.hir_session_state.specs.Kept.{collected_of}
 use Rattle.hir_session_state.specs.SessionState.{SessionState, Resolution, workspace_of, finished_of, follows, kept_of, IsPlace, IsResolutionOf, IsSound}
 use Rattle.hir_session_state.specs.SessionState.IsPlace.{of_block, of_crate}
 use Rattle.hir_session_state.specs.HirCrateGraph.Dependencies.DependsOn.{directly}
-use Rattle.hir_session_state.proofs.Depending.{depended, found-any}
+use Rattle.hir_session_state.proofs.Depending.{depended, direct_below, found-any}
 use Rattle.hir_session_state.proofs.Following.{behind_block, dependency_behind}
 use Rattle.hir_session_state.proofs.Ids.{of_number, other_id, own_id}
 use Rattle.hir_session_state.proofs.Standing.{kept_gives, unmarked}
 use Rattle.hir_session_state.proofs.Truth.{both_true, clash, no_value, one_value, or_left, or_right}
-use Rattle.hir_session_state.proofs.Worlds.{AgreeOn-refl}
+use Rattle.hir_session_state.proofs.Worlds.{AgreeOn-refl, kept_transitive}
 use Rattle.std.proofs.lemmas.Bool.{eqb-true}
 
 module _ (m : Map) (local : Local) (id : MapId) (ne : id ≢ m.id) where
@@ -77,7 +79,7 @@ lies_outside id o h held outside e =
     (ap not (subst (λ (x : MapId). map_id.ghosts.eq h.map x ≡ true) e (same_id h.map)))
 
 -- a crate that is found is listed
-listed_crate : (crates : List Crate) (c : Crate) → has_crate crates c ≡ true → Contains crates c
+pub listed_crate : (crates : List Crate) (c : Crate) → has_crate crates c ≡ true → Contains crates c
 listed_crate crates c has =
     let found = found-any _ crates has in
     let same : c.0 ≡ found.0.0 = eqb-true c.0 found.0.0 found.2 in
@@ -92,18 +94,18 @@ module _ (s : SessionState) (sound : IsSound s) (id : MapId) (r : Resolution) (i
   pub kept_ended : Ends s.tables (workspace_of s) (finished_of s) gives.from (collected_of r)
   kept_ended = gives.resolved.ends (workspace_of s) (finished_of s) AgreeOn-refl
 
-  kept_krate : krate_of gives.from.start ≡ id.krate
+  pub kept_krate : krate_of gives.from.start ≡ id.krate
   kept_krate = ap (λ (x : MapId). x.krate) (sym kept_ended.own ∙ gives.own)
 
   -- it has the crates on which its own stands
   pub kept_dependencies : r.map.crate_data.dependencies ≡ transitive_in s.crates id.krate.0
-  kept_dependencies = kept_ended.dependencies_are ∙ ap (λ (c : Crate). transitive_in s.crates c.0) kept_krate
+  kept_dependencies = kept_transitive s id r gives
 
   named_of_crate : id.block ≡ None → (d : MapId) → Contains (follows s id) d → refers_to r.map r.local d ≡ true
   named_of_crate none d among =
       let c = dependency_behind s id.krate d (subst (λ (x : MapId). Contains (follows s x) d) (of_number id none) among) in
       let behind : has_crate (transitive_in s.crates id.krate.0) c.0 ≡ true = (depended sound id.krate.0 c.0).1 (directly id.krate.0 c.0 c.1) in
-      let lower : c.0.0 < id.krate.0 = sound.below id.krate.0 c.0 c.1 in
+      let lower : c.0.0 < id.krate.0 = direct_below s id.krate.0 c.0 c.1 in
       subst (λ (x : MapId). refers_to r.map r.local x ≡ true) (sym c.2)
       (names_data r.map r.local c.0 (subst (λ (cs : List Crate). Contains cs c.0) (sym kept_dependencies)
       (listed_crate (transitive_in s.crates id.krate.0) c.0 behind))

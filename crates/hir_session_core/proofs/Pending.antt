@@ -168,7 +168,8 @@ collecting-start s pending places empty is = record {
   own = subst (λ (ks : List PendingBlock). All IsOwn ks) (sym empty) (All-nil IsOwn);
 }
 
-module _ (s : SessionState) (pending new : BTreeSet PendingBlock) (b : BlockPlace) (rest : List PlaceValue) (p : IsCollecting s pending (place_of_block b ∷ rest)) where
+module _ (s : SessionState) (pending new : BTreeSet PendingBlock) (b : BlockPlace) (rest : List PlaceValue)
+    (p : IsCollecting s pending (place_of_block b ∷ rest)) where
   -- one of which something is kept is no more
   skip : is_none (block_kept s b) ≡ false → new.keys ≡ pending.keys → IsCollecting s new rest
   skip some is = record {

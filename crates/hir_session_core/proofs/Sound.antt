@@ -1,5 +1,5 @@
 -- An edit, and the resolution of a place, leave a sound session.
-use Rattle.std.specs.Prelude.{is_none, map}
+use Rattle.std.specs.Prelude.{◌≤◌, ◌++◌, is_none, map}
 use Rattle.std.proofs.Common.{◌≡◌, ◌≢◌, ◌⊎◌, inl, inr, ℕ, zero, suc, ◌<◌, Bool, true, false, ◌||◌, is_some, List, [], ◌∷◌, length, arith, Option, Some, None}
 use Rattle.std.proofs.Common.{option_map, refl, sym, ap, ◌∙◌, subst, Contains}
 use Rattle.hir_session_state.specs.HirIds.contracts.ids.MapIdPartialEq.TheImpl as map_id
@@ -11,7 +11,7 @@ use Rattle.hir_session_state.specs.HirIds.declared.ids.MapId.{MapId}
 use Rattle.hir_session_state.specs.HirIds.declared.ids.ModuleId.{ModuleId}
 use Rattle.hir_session_state.specs.HirIds.declared.ast_id.SyntaxId.{SyntaxId}
 use Rattle.hir_session_state.specs.HirTables.SourcePlaces.{block}
-use Rattle.hir_session_state.specs.HirTables.Tables.{TablesValue, block_at}
+use Rattle.hir_session_state.specs.HirTables.Tables.{TablesValue, block_at, file_at}
 use Rattle.hir_session_state.proofs.HirTables.Growth.{KeepsTables-refl}
 use Rattle.hir_session_state.specs.HirDefMapRules.Inner.OverlayLaws.{exact_map}
 use Rattle.hir_session_state.specs.HirDefMapRules.References.{refers_to}
@@ -19,31 +19,36 @@ use Rattle.hir_session_state.specs.HirNameres.Removal.{Depends}
 use Rattle.hir_session_state.specs.HirNameres.Removal.Depends.{itself, through}
 use Rattle.hir_session_state.specs.HirDefMapRules.State.{crate_map}
 use Rattle.hir_session_state.specs.HirDefMapRules.Overlay.{holders_under, no_maps}
-use Rattle.hir_session_state.specs.HirCollectorRules.Keys.{AgreeOn, Look, look, of_entry, of_input, of_map, of_text, of_tree, of_variants, source_under}
+use Rattle.hir_session_state.specs.HirCollectorRules.Keys.{AgreeOn, Look, config_key, keys_behind, look, of_config}
+use Rattle.hir_session_state.specs.HirCollectorRules.Keys.{of_entry, of_input, of_map, of_text, of_tree}
+use Rattle.hir_session_state.specs.HirCollectorRules.Keys.{of_variants, source_under}
 use Rattle.hir_session_state.specs.HirCollectorRules.Start.{Beginning, holder_of, root_key}
-use Rattle.hir_session_state.specs.HirCollectorRules.Workspace.{Workspace, seen_of}
+use Rattle.hir_session_state.specs.HirCollectorRules.Workspace.{ConfigValue, Workspace, dependencies_of as handed_dependencies, earlier, seen_of}
+use Rattle.hir_session_state.specs.HirCollectorRules.declared.source_database.Dependency.{Dependency}
+use Rattle.hir_session_state.proofs.HirCollectorRules.Asked.{config_behind, seen_config}
 use Rattle.hir_session_state.proofs.HirCollectorRules.Asks.{still_asked}
-use Rattle.std.proofs.lemmas.List.Elements.{Contains-append_left}
+use Rattle.hir_session_state.proofs.HirCollectorRules.Dependencies.{same_transitive}
+use Rattle.std.proofs.lemmas.List.Elements.{Contains-append_left, Contains-append_right}
 use Rattle.hir_session_state.specs.HirCollectorRules.declared.source_database.Key.{Key}
 use Rattle.hir_session_state.specs.HirCrateGraph.CrateSet.{has_crate}
-use Rattle.hir_session_state.specs.Crates.{CrateValue, begins_in_block, transitive_in, id_of}
+use Rattle.hir_session_state.specs.Crates.{CrateValue, beginning_in, begins_in_block, config_in, crate_in, named_in, transitive_in, id_of}
 use Rattle.hir_session_state.specs.SourceEdits.{SourceEditValue, edited as made}
 use Rattle.hir_session_state.specs.SourceTable.{SourceTable, workspace_in}
 use Rattle.hir_session_state.specs.Kept.{Resolutions, kept_in, names_in, names_of, AreForgotten}
 use Rattle.hir_session_state.specs.HirCrateGraph.Dependencies.{DependsOn}
 use Rattle.hir_session_state.specs.HirCrateGraph.Dependencies.DependsOn.{directly, through as depends_through}
 use Rattle.hir_session_state.specs.SessionState.{SessionState, Resolution, dependencies_of, workspace_of, finished_of, follows, follows_by, held_maps, kept_of}
-use Rattle.hir_session_state.specs.SessionState.{is_marked, IsResolutionOf, IsCurrent, IsPlace, IsSound}
+use Rattle.hir_session_state.specs.SessionState.{is_marked, max_crates, IsResolutionOf, IsCurrent, IsPlace, IsSound}
 use Rattle.hir_session_state.specs.SessionState.IsPlace.{of_block, of_crate}
 use Rattle.hir_session_state.specs.Spread.{Spread}
 use Rattle.hir_session_state.specs.Spread.Spread.{here, depends}
 use Rattle.hir_session_state.specs.Standing.{block_map, is_set}
 use Rattle.hir_session_state.specs.Marks.{IsTouched}
 use Rattle.hir_session_state.specs.Marks.IsTouched.{before, asked_for}
-use Rattle.hir_session_state.specs.EditedSources.{AreHit}
-use Rattle.hir_session_state.specs.Changes.{Becomes}
+use Rattle.hir_session_state.specs.EditedSources.{AreHit, AreReached}
+use Rattle.hir_session_state.specs.Changes.{Becomes, IsHandedIn}
 use Rattle.hir_session_state.specs.Due.{Resolved}
-use Rattle.hir_session_state.proofs.Depending.{depended}
+use Rattle.hir_session_state.proofs.Depending.{depended, direct_below}
 use Rattle.hir_session_state.proofs.Following.{behind_block, dependency_behind, followed, followed_crate, followed_holder, spread_on}
 use Rattle.hir_session_state.proofs.Holding.{first_holder, held_block, holder_kept, holders_hold}
 use Rattle.hir_session_state.proofs.Ids.{of_number, on_id}
@@ -52,7 +57,7 @@ use Rattle.hir_session_state.proofs.Standing.{beginning_stays, block_begun, kept
 use Rattle.hir_session_state.proofs.Truth.{clash, on_bool, one_value}
 use Rattle.hir_session_state.proofs.Worlds.{AgreeOn-refl, DependsOn-holds, IsKeptBehind, IsResolutionOf-stays, kept_behind}
 use Rattle.hir_session_core.specs.Progress.{follows_under, AreFollowedCurrent}
-use Rattle.hir_session_core.proofs.Naming.{kept_ended, names-behind}
+use Rattle.hir_session_core.proofs.Naming.{kept_ended, kept_krate, names-behind}
 
 -- ---- what is kept
 
@@ -184,6 +189,29 @@ is_there (of_text text) = false
 is_there (of_input text) = false
 is_there (of_entry e) = false
 is_there (of_map m) = false
+is_there (of_config c) = false
+
+-- what the crate of a kept place was handed in with was asked for, and each on which that depends
+pub config_asked : (s : SessionState) (sound : IsSound s) (id : MapId) (r : Resolution) (is : kept_of s id ≡ Some r) (c : Crate)
+    → Contains (id.krate ∷ transitive_in s.crates id.krate.0) c → Contains r.asked (config_key c)
+config_asked s sound id r is c among =
+    let ended = kept_ended s sound id r is in
+    subst (λ (ks : List Key). Contains ks (config_key c)) (sym (ended.asked_is ∙ ap (λ (k : Crate). ended.last.core.asked
+    ++ keys_behind k (transitive_in s.crates k.0)) (kept_krate s sound id r is)))
+    (Contains-append_right ended.last.core.asked (keys_behind id.krate (transitive_in s.crates id.krate.0)) (config_key c)
+    (config_behind id.krate (transitive_in s.crates id.krate.0) c among))
+
+-- ---- crates that are handed in anew
+
+-- the crates are the same but for what they are handed in with, which names as dependencies such as come before alone
+pub record AreRenewed (s : SessionState) (C : List CrateValue) : Type 0 where
+  pub count : length C ≡ length s.crates
+  pub below : (k : ℕ) (d : Crate) → Contains (named_in C k) d → d.0 < k
+  pub begins : (k : ℕ) → config_in C (record { 0 = k }) ≡ config_in s.crates (record { 0 = k }) → beginning_in C k ≡ beginning_in s.crates k
+  pub rooted : (k : ℕ) → k < length C → file_at s.tables (crate_in C k).file ≡ Some (crate_in C k).own.root
+
+same_renewed : (s : SessionState) → IsSound s → AreRenewed s s.crates
+same_renewed s sound = record { count = refl; below = sound.below; begins = λ k same. refl; rooted = sound.rooted }
 
 -- the tree of a block is there where the block is set
 root_seen : (crates : List CrateValue) (tables : TablesValue) (t : SourceTable) (b : BlockId) (place : BlockPlace) (holder : ModuleId) (file : EditionedFileId)
@@ -194,26 +222,19 @@ root_seen crates tables t b place holder file id from means begins =
     subst (λ (x : Beginning). is_there (look tables (workspace_in crates t) no_maps (root_key x.start x.tree)) ≡ is_set t.blocks place) begins
     (ap (λ (o : Option BlockPlace). is_there (of_tree (seen_of (source_under (workspace_in crates t) place.holder.krate (option_map block o))))) means)
 
-module _ (s : SessionState) (sound : IsSound s) (F : SourceTable) (hits : List MapId) (K : Resolutions)
-    (hit : AreHit s.tables (workspace_of s) (workspace_in s.crates F) s.kept hits) (forgotten : AreForgotten s.kept hits K) where
+module _ (s : SessionState) (sound : IsSound s) (C : List CrateValue) (F : SourceTable) (hits : List MapId) (K : Resolutions)
+    (renewed : AreRenewed s C) (reached : AreReached s (workspace_in C F) hits) (forgotten : AreForgotten s.kept hits K) where
   abbrev edited : Workspace
-  edited = workspace_in s.crates F
+  edited = workspace_in C F
 
   abbrev IsReached : MapId → Type 0
   IsReached id = Spread (follows s) (IsTouched s edited) id
 
-  -- a place of which something is kept is hit, or what it asked for is as it was
-  judged : (id : MapId) (r : Resolution) → kept_of s id ≡ Some r → Contains hits id ⊎ AgreeOn s.tables r.asked (workspace_of s) no_maps edited no_maps
-  judged id r is = hit.missed id r is
-
-  hit_touched : (id : MapId) → Contains hits id → IsTouched s edited id
-  hit_touched id among = let asked = hit.asked id among in asked_for asked.altered.key asked.found asked.is asked.altered.asked asked.altered.altered
-
   touched_or : (id : MapId) → IsTouched s edited id ⊎ (¬ IsTouched s edited id)
   touched_or id = on_kept (kept_of s id)
       (λ none. inl (before (none_marked (kept_of s id) none)))
-      (λ r is. elim (judged id r is) [
-        | inl does ↦ inl (hit_touched id does)
+      (λ r is. elim (reached.missed id r is) [
+        | inl does ↦ inl does.0
         | inr alike ↦ inr (untouched id r is alike)
       ])
     where
@@ -239,7 +260,7 @@ module _ (s : SessionState) (sound : IsSound s) (F : SourceTable) (hits : List M
   reached_crate zero krate low = absurd (omega arith)
   reached_crate (suc n) krate low = reached_by (crate_map krate) (λ d among.
       let c = dependency_behind s krate d among in
-      let lower : c.0.0 < krate.0 = sound.below krate.0 c.0 c.1 in
+      let lower : c.0.0 < krate.0 = direct_below s krate.0 c.0 c.1 in
       subst (λ (x : MapId). IsReached x ⊎ (¬ IsReached x)) (sym c.2) (reached_crate n c.0 (omega arith)))
 
   -- of blocks, by the module that holds one
@@ -274,7 +295,7 @@ module _ (s : SessionState) (sound : IsSound s) (F : SourceTable) (hits : List M
 
   -- of what isn't reached what was kept stays
   unreached_stays : (id : MapId) → (¬ IsReached id) → kept_in K id ≡ kept_of s id
-  unreached_stays id apart = forgotten.stay id (λ on among d. apart (spread_named s sound d (here on (hit_touched on among))))
+  unreached_stays id apart = forgotten.stay id (λ on among d. apart (spread_named s sound d (here on (reached.touched on among))))
 
   gone_reached : (id : MapId) → kept_in K id ≡ None → IsReached id
   gone_reached id none = elim (reached_or id) [
@@ -285,16 +306,24 @@ module _ (s : SessionState) (sound : IsSound s) (F : SourceTable) (hits : List M
   still_none : (id : MapId) → kept_of s id ≡ None → kept_in K id ≡ None
   still_none id none = elim (forgotten.fewer id) [ inl same ↦ same ∙ none | inr nothing ↦ nothing ]
 
+  -- what depends on a place that is gone is gone
+  depends_gone : (id d : MapId) → Contains (follows s id) d → kept_in K d ≡ None → kept_in K id ≡ None
+  depends_gone id d among none = on_kept (kept_of s id)
+      (λ nothing. still_none id nothing)
+      (λ r is. forgotten.named id d (names_followed s sound id d r is among)
+      (unmarked_some (kept_of s d) (sound.closed id d (some_unmarked (kept_of s id) r is) among)) none)
+
+  hit_gone : {id : MapId} → Spread (follows s) (Contains hits) id → kept_in K id ≡ None
+  hit_gone (here id among) = forgotten.gone id among
+  hit_gone (depends id d among sp) = depends_gone id d among (hit_gone sp)
+
   reached_gone : {id : MapId} → IsReached id → kept_in K id ≡ None
   reached_gone (here id (before m)) = still_none id (marked_none (kept_of s id) m)
-  reached_gone (here id (asked_for key r is has ne)) = elim (judged id r is) [
-    | inl does ↦ forgotten.gone id does
+  reached_gone (here id (asked_for key r is has ne)) = elim (reached.missed id r is) [
+    | inl does ↦ hit_gone does.1
     | inr alike ↦ absurd (ne (alike.same key has))
   ]
-  reached_gone (depends id d among sp) = on_kept (kept_of s id)
-      (λ none. still_none id none)
-      (λ r is. forgotten.named id d (names_followed s sound id d r is among)
-      (unmarked_some (kept_of s d) (sound.closed id d (some_unmarked (kept_of s id) r is) among)) (reached_gone sp))
+  reached_gone (depends id d among sp) = depends_gone id d among (reached_gone sp)
 
   -- ---- what is kept still
 
@@ -314,10 +343,23 @@ module _ (s : SessionState) (sound : IsSound s) (F : SourceTable) (hits : List M
       (λ h. h)
 
   unhit : (id : MapId) → IsKeptStill id → (r : Resolution) → kept_of s id ≡ Some r → AgreeOn s.tables r.asked (workspace_of s) no_maps edited no_maps
-  unhit id off r is = elim (judged id r is) [
-    | inl does ↦ clash (none_marked (kept_in K id) (forgotten.gone id does)) off
+  unhit id off r is = elim (reached.missed id r is) [
+    | inl does ↦ clash (none_marked (kept_in K id) (hit_gone does.1)) off
     | inr alike ↦ alike
   ]
+
+  -- its crate, and each on which that depends, is handed in as it was
+  config_still : (id : MapId) → IsKeptStill id → (c : Crate) → Contains (id.krate ∷ transitive_in s.crates id.krate.0) c → config_in C c
+      ≡ config_in s.crates c
+  config_still id off c among = on_kept (kept_of s id)
+      (λ none. clash (none_marked (kept_of s id) none) (was_unmarked id off))
+      (λ r is. ap (λ (l : Look). seen_config l None) ((unhit id off r is).same (config_key c) (config_asked s sound id r is c among)))
+
+  transitive_still : (id : MapId) → IsKeptStill id → transitive_in C id.krate.0 ≡ transitive_in s.crates id.krate.0
+  transitive_still id off = same_transitive (config_in s.crates) (config_in C) id.krate (config_still id off)
+
+  own_still : (id : MapId) → IsKeptStill id → config_in C id.krate ≡ config_in s.crates id.krate
+  own_still id off = config_still id off id.krate (0, omega arith, refl)
 
   -- a block that is kept still is set: its run asked for its tree
   set_still : (b : BlockId) (place : BlockPlace) → block_at s.tables b ≡ Some place → IsKeptStill (block_map place.holder.krate b)
@@ -329,16 +371,16 @@ module _ (s : SessionState) (sound : IsSound s) (F : SourceTable) (hits : List M
       let begun = block_begun s place.holder.krate b p.from p.begun in
       let same = (unhit (block_map place.holder.krate b) off r is).same (root_key p.from.start p.from.tree)
       (root_asked s sound (block_map place.holder.krate b) r is) in
-      sym (root_seen s.crates s.tables F b place begun.holder begun.file begun.place.id p.from means begun.is)
+      sym (root_seen C s.tables F b place begun.holder begun.file begun.place.id p.from means begun.is)
       ∙ ap is_there same
       ∙ root_seen s.crates s.tables s.sources b place begun.holder begun.file begun.place.id p.from means begun.is
       ∙ set)
 
   -- an edit leaves a sound session
-  pub applied_sound : IsSound (record s { sources = F; kept = K })
+  pub applied_sound : IsSound (record s { crates = C; sources = F; kept = K })
   applied_sound = record {
-    few = sound.few;
-    below = sound.below;
+    few = subst (λ (n : ℕ). n ≤ max_crates) (sym renewed.count) sound.few;
+    below = renewed.below;
     placed = λ id off. placed_still id off (sound.placed id (was_unmarked id off));
     closed = λ id d off among. closed_still id d off (subst (λ (ds : List MapId). Contains ds d) (follows_still id off id.block) among);
     current = λ id off.
@@ -346,24 +388,30 @@ module _ (s : SessionState) (sound : IsSound s) (F : SourceTable) (hits : List M
         record {
           found = now.found;
           is = stays id off ∙ now.is;
-          gives = IsResolutionOf-stays s F K id now.found now.gives
-              (kept_behind s sound F K IsKeptStill closed_still stays id now.found now.is off)
-              (beginning_stays s sound IsKeptStill closed_still s.tables F K (KeepsTables-refl _) stays set_still id now.gives.from now.gives.begun
+          gives = IsResolutionOf-stays s C F K id now.found now.gives
+              (kept_behind s sound C F K IsKeptStill closed_still stays transitive_still id now.found now.is off)
+              (beginning_stays s sound IsKeptStill closed_still C s.tables F K (KeepsTables-refl _) stays set_still id
+              (λ none. renewed.begins id.krate.0 (own_still id off)) now.gives.from now.gives.begun
               (holder_still id now.found now.is now.gives off))
               (unhit id off now.found now.is);
         };
-    rooted = sound.rooted;
+    rooted = renewed.rooted;
     calls = sound.calls;
   }
     where
-      placed_still : (id : MapId) → IsKeptStill id → IsPlace s id → IsPlace (record s { sources = F; kept = K }) id
-      placed_still id off (of_crate none within) = of_crate none within
+      within_still : (k : ℕ) → k < length s.crates → k < length C
+      within_still k within = subst (λ (n : ℕ). k < n) (sym renewed.count) within
+
+      placed_still : (id : MapId) → IsKeptStill id → IsPlace s id → IsPlace (record s { crates = C; sources = F; kept = K }) id
+      placed_still id off (of_crate none within) = of_crate none (within_still id.krate.0 within)
       placed_still id off (of_block b place is means own within set) =
           let is_id : id ≡ block_map place.holder.krate b = λ i. record { krate = sym own i; block = is i } in
-          of_block b place is means own within (set_still b place means (subst IsKeptStill is_id off) set)
+          of_block b place is means own (within_still id.krate.0 within) (set_still b place means (subst IsKeptStill is_id off) set)
 
-      follows_still : (id : MapId) → IsKeptStill id → (o : Option BlockId) → follows_by (record s { sources = F; kept = K }) id o ≡ follows_by s id o
-      follows_still id off None = refl
+      follows_still : (id : MapId) → IsKeptStill id → (o : Option BlockId) → follows_by (record s { crates = C; sources = F; kept = K }) id o
+          ≡ follows_by s id o
+      follows_still id off None =
+          ap (λ (o : Option ConfigValue). map crate_map (earlier id.krate.0 (map (λ (d : Dependency). d.krate) (handed_dependencies o)))) (own_still id off)
       follows_still id off (Some b) = ap (λ (o : Option Resolution). crate_map id.krate ∷ held_maps o) (stays id off)
 
       holder_still : (id : MapId) (r : Resolution) → kept_of s id ≡ Some r → (p : IsResolutionOf s id r) → IsKeptStill id → (h : ModuleId)
@@ -374,7 +422,7 @@ module _ (s : SessionState) (sound : IsSound s) (F : SourceTable) (hits : List M
           closed_still id h.map off (followed_holder s id of.0 r h of.1 is in_map)
 
   -- and has its effect
-  pub becomes : Becomes s F (record s { sources = F; kept = K })
+  pub becomes : IsHandedIn s (record { crates = C; sources = F }) (record s { crates = C; sources = F; kept = K })
   becomes = record {
     crates = refl;
     tables = refl;
@@ -390,16 +438,32 @@ module _ (s : SessionState) (edit : SourceEditValue) (hits : List MapId) (K : Re
   abbrev after : SessionState
   after = record s { sources = made s.sources edit; kept = K }
 
+  -- the places that are hit are touched, and no others are but for those that depend on them
+  hit_reached : AreHit s.tables (workspace_of s) (workspace_in s.crates (made s.sources edit)) s.kept hits
+      → AreReached s (workspace_in s.crates (made s.sources edit)) hits
+  hit_reached hit = record {
+    touched = touched;
+    missed = λ id r is. elim (hit.missed id r is) [
+      | inl does ↦ inl (touched id does, here id does)
+      | inr alike ↦ inr alike
+    ];
+  }
+    where
+      touched : (id : MapId) → Contains hits id → IsTouched s (workspace_in s.crates (made s.sources edit)) id
+      touched id among = let asked = hit.asked id among in asked_for asked.altered.key asked.found asked.is asked.altered.asked asked.altered.altered
+
   -- it is sound
   pub edited_sound : IsSound s → AreHit s.tables (workspace_of s) (workspace_in s.crates (made s.sources edit)) s.kept hits
       → AreForgotten s.kept hits K → IsSound after
-  edited_sound sound hit forgotten = applied_sound s sound (made s.sources edit) hits K hit forgotten
+  edited_sound sound hit forgotten =
+      applied_sound s sound s.crates (made s.sources edit) hits K (same_renewed s sound) (hit_reached hit) forgotten
 
   -- and the edit has its effect
   pub edited_becomes : (view : SessionState) → s ≡ view → IsSound s → AreHit s.tables (workspace_of s) (workspace_in s.crates (made s.sources edit)) s.kept hits
       → AreForgotten s.kept hits K → Becomes view (made view.sources edit) after
   edited_becomes view seen sound hit forgotten =
-      subst (λ (v : SessionState). Becomes v (made v.sources edit) after) seen (becomes s sound (made s.sources edit) hits K hit forgotten)
+      subst (λ (v : SessionState). Becomes v (made v.sources edit) after) seen
+      (becomes s sound s.crates (made s.sources edit) hits K (same_renewed s sound) (hit_reached hit) forgotten)
 
 -- ---- a resolution
 
@@ -418,7 +482,8 @@ resolved_of s K id r own kept_here others = record {
   others = λ j ne. others j (λ e. ne (e ∙ own));
 }
 
-module _ (s : SessionState) (id : MapId) (r : Resolution) (K : Resolutions) (sound : IsSound s) (place : IsPlace s id) (on : is_marked s id ≡ true) (found : IsResolutionOf s id r)
+module _ (s : SessionState) (id : MapId) (r : Resolution) (K : Resolutions) (sound : IsSound s) (place : IsPlace s id) (on : is_marked s id ≡ true)
+    (found : IsResolutionOf s id r)
     (behind : AreFollowedCurrent s id r.map.holder) (kept_here : kept_in K id ≡ Some r) (kept_else : (j : MapId) → j ≢ id → kept_in K j ≡ kept_of s j) where
   -- what was unmarked still is, and is as it was
   abbrev WasUnmarked : MapId → Type 0
@@ -439,11 +504,12 @@ module _ (s : SessionState) (id : MapId) (r : Resolution) (K : Resolutions) (sou
   abbrev kept_now : SessionState
   kept_now = record s { kept = K }
 
-  stays_resolved : (j : MapId) (x : Resolution) (p : IsResolutionOf s j x) → IsKeptBehind s s.sources K j x
+  stays_resolved : (j : MapId) (x : Resolution) (p : IsResolutionOf s j x) → IsKeptBehind s s.crates s.sources K j x
       → ((h : ModuleId) → holder_of p.from.start ≡ Some h → WasUnmarked h.map)
       → IsResolutionOf kept_now j x
-  stays_resolved j x p kept held = IsResolutionOf-stays s s.sources K j x p kept
-      (beginning_stays s sound WasUnmarked outwards s.tables s.sources K (KeepsTables-refl _) as_it_was (λ b at means off set. set) j p.from p.begun held)
+  stays_resolved j x p kept held = IsResolutionOf-stays s s.crates s.sources K j x p kept
+      (beginning_stays s sound WasUnmarked outwards s.crates s.tables s.sources K (KeepsTables-refl _) as_it_was (λ b at means off set. set) j (λ none. refl)
+      p.from p.begun held)
       AgreeOn-refl
 
   -- what it follows is current
@@ -485,8 +551,9 @@ module _ (s : SessionState) (id : MapId) (r : Resolution) (K : Resolutions) (sou
           (subst (λ (x : MapId). Contains (follows kept_now x) (crate_map d)) (sym (of_number id none)) (followed kept_now id.krate d h)))
       go (Some b) of = all_behind (λ d h. outwards (crate_map id.krate) (crate_map d) (own_now b of) (followed s id.krate d h))
 
-  behind_now : IsKeptBehind s s.sources K id r
+  behind_now : IsKeptBehind s s.crates s.sources K id r
   behind_now = record {
+    transitive = refl;
     crates = λ c among. as_it_was (crate_map c) (crates_now c among);
     own = λ b of. as_it_was (crate_map id.krate) (own_now b of);
     holders = λ h among. as_it_was h.map (each h among);
@@ -531,7 +598,8 @@ module _ (s : SessionState) (id : MapId) (r : Resolution) (K : Resolutions) (sou
         record {
           found = now.found;
           is = kept_else j ne ∙ now.is;
-          gives = stays_resolved j now.found now.gives (kept_behind s sound s.sources K WasUnmarked outwards as_it_was j now.found now.is unmarked_before)
+          gives = stays_resolved j now.found now.gives
+              (kept_behind s sound s.crates s.sources K WasUnmarked outwards as_it_was (λ i off. refl) j now.found now.is unmarked_before)
               (λ h held.
               let in_map : now.found.map.holder ≡ Some h = now.gives.holder ∙ held in
               let of = held_block s j now.found now.gives h in_map in
@@ -554,5 +622,5 @@ pub followed_crates : (s : SessionState) → IsSound s → (k : ℕ) → ((j : �
     → AreFollowedCurrent s (id_of k) holder
 followed_crates s sound k first holder d among =
     let c = dependency_behind s (record { 0 = k }) d among in
-    let lower : c.0.0 < k = sound.below k c.0 c.1 in
+    let lower : c.0.0 < k = direct_below s k c.0 c.1 in
     ap (is_marked s) c.2 ∙ first c.0.0 lower

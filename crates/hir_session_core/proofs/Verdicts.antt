@@ -67,6 +67,11 @@ block_told steps source (Err (edit_error.TooLarge limit)) told accepted refused 
   | inr right ↦ subst (λ (v : Result (Unit {0}) EditError). IsTold told (verdict_with_steps steps v)) (sym right)
       (told_right told (verdict_with_steps steps (Err (edit_error.TooLarge limit))) is)
 ]
+block_told steps source (Err (edit_error.DependencyOrder krate)) told accepted refused is = elim refused [
+  | inl memory ↦ absurd (let wrong : ⊥ = cc in wrong)
+  | inr right ↦ subst (λ (v : Result (Unit {0}) EditError). IsTold told (verdict_with_steps steps v)) (sym right)
+      (told_right told (verdict_with_steps steps (Err (edit_error.DependencyOrder krate))) is)
+]
 block_told steps source (Err (edit_error.DuplicateId kind id)) told accepted refused is = elim refused [
   | inl memory ↦ absurd (let wrong : ⊥ = cc in wrong)
   | inr right ↦ subst (λ (v : Result (Unit {0}) EditError). IsTold told (verdict_with_steps steps v)) (sym right)

@@ -381,7 +381,8 @@ in_turn-start s before pending sound all current sorted = record {
   sorted = sorted;
 }
 
-module _ (from : SessionState) (before : List PlaceValue) (pending : List PendingBlock) (looked rest : List PendingBlock) (p : PendingBlock) (now : SessionState) (done : List PlaceValue)
+module _ (from : SessionState) (before : List PlaceValue) (pending : List PendingBlock) (looked rest : List PendingBlock) (p : PendingBlock)
+    (now : SessionState) (done : List PlaceValue)
     (t : IsInTurn from before pending looked (p ∷ rest) now done) where
   split_behind : (looked ++ p ∷ []) ++ rest ≡ pending
   split_behind = append_assoc looked (p ∷ []) rest ∙ t.split

@@ -10,5 +10,6 @@ abbrev pub told_with_steps : List PlaceElement â†’ Result (Unit {0}) EditError â
 told_with_steps steps (Ok u) = verdict_with_steps steps (Ok u)
 told_with_steps steps (Err edit_error.UnknownCrate) = verdict_with_steps steps (Err edit_error.UnknownCrate)
 told_with_steps steps (Err (edit_error.TooLarge limit)) = verdict_with_steps steps (Err (edit_error.TooLarge limit))
+told_with_steps steps (Err (edit_error.DependencyOrder krate)) = verdict_with_steps steps (Err (edit_error.DependencyOrder krate))
 told_with_steps steps (Err (edit_error.DuplicateId kind id)) = verdict_with_steps steps (Err (edit_error.DuplicateId kind id))
 told_with_steps steps (Err edit_error.Memory) = Err edit_error.Memory

@@ -27,6 +27,7 @@ ghost use Rattle.hir_session_state.specs.Changes.{Becomes, Applies};
 
 mod assoc_items;
 mod blocks;
+mod crates;
 mod pending;
 mod queries;
 mod refresh;
@@ -304,6 +305,13 @@ impl Session {
             Edit::RemoveBlock { place } => self.remove_block(alloc, &place)?,
             Edit::SetExpansion { key, entry } => self.set_expansion(alloc, key, entry)?,
             Edit::RemoveExpansion { key } => self.remove_expansion(alloc, &key)?,
+            Edit::SetCrate {
+                krate,
+                edition,
+                attrs,
+                cfg,
+                deps,
+            } => self.set_crate(alloc, krate, edition, attrs, cfg, deps)?,
         }
         Ok(())
     }

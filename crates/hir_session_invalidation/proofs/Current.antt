@@ -1,5 +1,5 @@
 -- What is kept of sources stays what they have.
-use Rattle.std.proofs.Common.{◌≡◌, ◌∙◌, ap, sym, subst, refl, nat_eq, Bool, true, false, ◌&&◌, if◌then◌else◌, List, Option, Some, None}
+use Rattle.std.proofs.Common.{◌≡◌, ◌∙◌, ℕ, ap, sym, subst, refl, nat_eq, Bool, true, false, ◌&&◌, if◌then◌else◌, List, Option, Some, None}
 use Rattle.std.specs.BTreeMap.{is_at}
 use Rattle.std.specs.Cmp.Lexicographic.{slice_cmp}
 use Rattle.std.specs.Cmp.{first_so, second_so}
@@ -8,20 +8,22 @@ use Rattle.hir_session_state.specs.HirIds.contracts.ids.CrateOrd.TheImpl as crat
 use Rattle.hir_session_state.specs.HirBase.contracts.place.BlockPlaceOrd.TheImpl as block_order
 use Rattle.hir_session_state.specs.HirIds.declared.ids.Crate.{Crate}
 use Rattle.hir_session_state.specs.HirItemTree.Source.{SourceValue}
-use Rattle.hir_session_state.specs.HirItemTree.SourceTree.{SourceTreeValue}
+use Rattle.hir_session_state.specs.HirBase.CfgOptions.{is_set}
+use Rattle.hir_session_state.specs.HirItemTree.SourceTree.{SourceTreeValue, source_tree_of}
 use Rattle.hir_session_state.specs.HirTables.SourcePlaces.{SourcePlaceValue, block, expansion, file}
-use Rattle.hir_session_state.specs.HirCollectorRules.Workspace.{Workspace}
+use Rattle.hir_session_state.specs.HirCollectorRules.Workspace.{ConfigValue, Workspace}
 use Rattle.hir_session_sources.specs.declared.source_trees.SourceTrees.{SourceTrees}
-use Rattle.hir_session_state.specs.Crates.{CrateValue}
+use Rattle.hir_session_state.specs.Crates.{CrateValue, with_config}
 use Rattle.hir_session_state.specs.Entries.{expansion_cmp}
 use Rattle.hir_session_state.specs.SourceEdits.{SourceEditValue, edited, place_of, source_by}
-use Rattle.hir_session_state.specs.SourceTable.{SourceTable, tree_under, workspace_in}
+use Rattle.hir_session_state.specs.SourceTable.{SourceTable, front_in, source_at, tree_under, workspace_in}
 use Rattle.hir_session_sources.specs.SourceTrees.{CrateTrees, AreCurrent, AreTreesOf, is_kept_at, is_place, tree_by, tree_in}
 use Rattle.hir_session_sources.proofs.BlockLemmas.{exact_blocks}
 use Rattle.hir_session_sources.proofs.Changing.{equal_crate, same_crate}
 use Rattle.hir_session_sources.proofs.Expansions.{exact_expansions}
 use Rattle.hir_session_sources.proofs.SourceLemmas.{exact_paths, place_same, source-other, source-there}
-use Rattle.hir_session_state.proofs.Truth.{clash, on_bool}
+use Rattle.hir_session_state.proofs.Renewed.{other_crate}
+use Rattle.hir_session_state.proofs.Truth.{clash, on_bool, on_same}
 
 none_some : {A B : Type 0} (o : Option A) (x : A) → o ≡ None → o ≡ Some x → B
 none_some o x none some = let both : None ≡ Some x = sym none ∙ some in absurd (let wrong : ⊥ = cc in wrong)
@@ -110,4 +112,18 @@ dropped_same w at old new are gone others = record {
   each = λ p c t is. on_bool (is_place at p)
       (λ on. none_some (tree_in new p c) t (ap (λ (q : SourcePlaceValue). tree_in new q c) (sym (place_same at p on)) ∙ gone c) is)
       (λ off. are.each p c t (sym (others p c off) ∙ is));
+}
+
+-- nothing is kept under a crate that is handed in with other data
+pub renewed_current : (crates : List CrateValue) (k : ℕ) (config : ConfigValue) (table : SourceTable) (old new : SourceTrees)
+    → AreCurrent (workspace_in crates table) old → ((place : SourcePlaceValue) → tree_in new place (record { 0 = k }) ≡ None)
+    → ((place : SourcePlaceValue) (c : Crate) (t : SourceTreeValue) → tree_in new place c ≡ Some t → tree_in old place c ≡ Some t)
+    → AreCurrent (workspace_in (with_config crates k config) table) new
+renewed_current crates k config table old new are gone kept = record {
+  each = λ place krate t is. on_same krate.0 k
+      (λ own. let it : krate ≡ record { 0 = k } = λ i. record { 0 = own i } in
+      none_some (tree_in new place krate) t (ap (λ (c : Crate). tree_in new place c) it ∙ gone place) is)
+      (λ other. are.each place krate t (kept place krate t is)
+      ∙ ap (λ (c : CrateValue). source_tree_of (is_set c.config.options) (front_in c place) (source_at table place))
+      (sym (other_crate crates k config krate.0 other)));
 }

@@ -184,7 +184,7 @@ module _ (crates : List CrateValue) (tables : TablesValue) (t : SourceTable) (ed
         (λ on.
         let one = found-any (is_at (map_order.ghosts.cmp id)) hits on in
         inl (subst (λ (x : MapId). Contains hits x) (sym (equal_id id one.0 one.2)) one.1))
-        (λ off. inr (record { crates = refl; config = λ krate. refl; same = unaltered id r found off }));
+        (λ off. inr (record { crates = refl; same = unaltered id r found off }));
   }
 
 -- no run names a source without a number
@@ -197,7 +197,6 @@ unnumbered_hit crates tables t edit kept hits none apart =
       asked = λ id among. absurd (let past : among.0 < 0 = among.1 in omega arith);
       missed = λ id r is. inr (record {
         crates = refl;
-        config = λ krate. refl;
         same = λ key among. look-apart crates tables t edit key (unnumbered-place tables (place_of edit) apart key);
       });
     })

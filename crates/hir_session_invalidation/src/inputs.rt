@@ -9,7 +9,8 @@ ghost use Rattle.hir_session_state.specs.HirCollectorRules.Calls.{AreCallsPlaced
 ghost use Rattle.hir_session_state.specs.HirCollectorRules.Derivation.{IsOverlong, collected_view};
 ghost use Rattle.hir_session_state.specs.HirCollectorRules.UnknownSources.{MeetsUnknownSource};
 ghost use Rattle.hir_session_state.specs.Blocks.{place_of_block, with_block, without_block};
-ghost use Rattle.hir_session_state.specs.Crates.{begins_in_block, beginning_in};
+ghost use Rattle.hir_session_state.specs.HirCollectorRules.Workspace.{config_view};
+ghost use Rattle.hir_session_state.specs.Crates.{begins_in_block, beginning_in, with_config};
 ghost use Rattle.hir_session_state.specs.Entries.{with_entry, without_entry};
 ghost use Rattle.hir_session_state.specs.Files.{with_file, without_file};
 ghost use Rattle.hir_session_state.specs.Inputs.{workspace_by};
@@ -31,6 +32,7 @@ use hir_session_sources::crates::Crates;
 use hir_session_sources::source_table::SourceTable;
 use hir_session_sources::source_trees::{CrateTrees, SourceTrees, source_tree};
 use hir_session_state::hir_collector_rules::collected::Collected;
+use hir_session_state::hir_collector_rules::source_database::Config;
 use hir_session_state::hir_collector_rules::start::CollectError;
 use hir_session_state::hir_def_map::world::World;
 use hir_session_state::hir_messages::edit::ExpansionEntry;
@@ -142,6 +144,23 @@ impl Inputs {
     {
         self.sources.remove_file(path);
         self.trees.replace(path, trees);
+    }
+
+    /// Has a crate handed in with this; it is for data that name only crates which come before it. What sources had under the
+    /// crate isn't kept.
+    pub fn set_crate(
+        &mut self,
+        alloc: Global,
+        krate: Crate,
+        config: Config,
+    ) -> Result<(), AllocError>
+        requires within { krate.0 < length self.old.crates }
+        ensures ok { OnOk result (self.new ≡ record self.old { crates = with_config self.old.crates krate.0 (config_view config) }) }
+        ensures err { OnErr result (self.new ≡ self.old) }
+    {
+        self.crates.set(alloc, krate, config)?;
+        self.trees.forget_crate(krate);
+        Ok(())
     }
 
     /// Sets a block. What it had under its crate isn't kept.

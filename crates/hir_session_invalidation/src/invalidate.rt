@@ -136,7 +136,7 @@ fn sees_another(change: &Change, key: Key) -> bool
         Key::Variants(id) => !change.after.has_same_variants(&change.before, id.loc.id),
         Key::Text(id) => !has_same_macro(&change.after, &change.before, id),
         Key::Input(_, ast) => !has_same_input(&change.after, &change.before, ast.kind, ast.id),
-        Key::Expansion(_) | Key::Map(_) => false,
+        Key::Expansion(_) | Key::Map(_) | Key::Config(_) => false,
     }
 }
 

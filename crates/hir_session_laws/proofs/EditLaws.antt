@@ -1,7 +1,8 @@
 -- What an edit of a source marks, and what it leaves.
 use Rattle.std.specs.Prelude.{cond, is_none, is_some}
 use Rattle.std.specs.Option.{option_and_then}
-use Rattle.std.proofs.Common.{◌≡◌, ◌≢◌, ℕ, Bool, true, false, nat_lt, if◌then◌else◌, length, Option, Some, None, refl, sym, subst, ap, ◌∙◌, Contains, List, []}
+use Rattle.std.proofs.Common.{◌≡◌, ◌≢◌, inl, inr, ℕ, Bool, true, false, nat_lt, if◌then◌else◌, length}
+use Rattle.std.proofs.Common.{Option, Some, None, refl, sym, subst, ap, ◌∙◌, Contains, List, []}
 use Rattle.std.proofs.Common.{◌∷◌, ◌++◌, option_map}
 use Rattle.hir_session_machine.specs.HirBase.CfgOptions.{is_set}
 use Rattle.hir_session_machine.specs.HirBase.Place.{PlaceValue}
@@ -28,10 +29,11 @@ use Rattle.hir_session_machine.specs.HirDefMapRules.Sources.{PathsAnswerFromSour
 use Rattle.hir_session_machine.specs.HirDefMapRules.State.{child_at, crate_map, root_of}
 use Rattle.hir_session_machine.specs.HirDefCollectorLaws.Sources.{RunsBindFromSources}
 use Rattle.hir_session_machine.specs.HirCollectorRules.Workspace.{EntryLook, Workspace}
-use Rattle.hir_session_machine.specs.HirCollectorRules.Keys.{Look, look, of_entry, of_input, of_map, of_text, of_tree, of_variants}
+use Rattle.hir_session_machine.specs.HirCollectorRules.Keys.{Look, look, of_config, of_entry, of_input, of_map, of_text, of_tree, of_variants}
 use Rattle.hir_session_machine.specs.HirCollectorRules.declared.source_database.Key.{Key}
 use Rattle.hir_session_machine.specs.HirCollectorRules.declared.source_database.Key.TheVariants as keys
-use Rattle.hir_session_machine.specs.HirMessages.Edits.{EditValue, EntryValue, set_file, remove_file, set_block, remove_block, set_expansion, remove_expansion}
+use Rattle.hir_session_machine.specs.HirMessages.Edits.{CrateDataValue, EditValue, EntryValue, set_file, remove_file, set_block, remove_block, set_expansion}
+use Rattle.hir_session_machine.specs.HirMessages.Edits.{remove_expansion}
 use Rattle.hir_session_machine.specs.HirMessages.declared.reply.Status.TheVariants as status
 use Rattle.hir_session_machine.specs.HirSessionAnswers.Status.{status_by, status_of}
 use Rattle.hir_session_machine.specs.HirSessionAnswers.Answers.{answer_at, answer_by, answer_from}
@@ -40,13 +42,15 @@ use Rattle.hir_session_machine.specs.HirSessionState.Crates.{CrateValue, crate_i
 use Rattle.hir_session_machine.specs.HirSessionState.Entries.{entry_at, look_of, source_of as source_in_entry}
 use Rattle.hir_session_machine.specs.HirSessionState.Files.{file_at}
 use Rattle.hir_session_machine.specs.HirSessionState.KeySources.{key_place, key_tree}
-use Rattle.hir_session_machine.specs.HirSessionState.SessionState.{SessionState, Resolution, finished_of, follows, is_marked, kept_of, module_of, read_of, standing_of}
+use Rattle.hir_session_machine.specs.HirSessionState.SessionState.{SessionState, Resolution, finished_of, follows, is_marked}
+use Rattle.hir_session_machine.specs.HirSessionState.SessionState.{kept_of, module_of, read_of, standing_of}
 use Rattle.hir_session_machine.specs.HirSessionState.SessionState.{workspace_of, IsSound}
 use Rattle.hir_session_machine.specs.HirSessionState.Kept.{kept_in, placed_by}
-use Rattle.hir_session_machine.specs.HirSessionState.Standing.{Standing, block_below, block_map, block_number, down, from_crate, is_set as is_block_set, kept_block, module_by}
+use Rattle.hir_session_machine.specs.HirSessionState.Standing.{Standing, block_below, block_map, block_number, down, from_crate}
+use Rattle.hir_session_machine.specs.HirSessionState.Standing.{is_set as is_block_set, kept_block, module_by}
 use Rattle.hir_session_machine.specs.HirSessionState.Standing.{step, to_child, to_root}
 use Rattle.hir_session_machine.specs.HirSessionState.Standing.Standing.{at, lacks, stale, unset}
-use Rattle.hir_session_machine.specs.HirSessionState.SourceEdits.{SourceEditValue, IsSeenAlike, edit_of, edited, of_block, of_expansion, of_file, place_of, source_by}
+use Rattle.hir_session_machine.specs.HirSessionState.SourceEdits.{SourceEditValue, IsSeenAlike, edited, of_block, of_expansion, of_file, place_of, source_by}
 use Rattle.hir_session_machine.specs.HirSessionState.SourceTable.{SourceTable, front_in, source_at, tree_under, workspace_in}
 use Rattle.hir_session_machine.specs.HirSessionSources.SourceTrees.{is_place}
 use Rattle.hir_session_machine.specs.HirSessionState.Spread.{Spread}
@@ -54,7 +58,7 @@ use Rattle.hir_session_machine.specs.HirSessionState.Spread.Spread.{here, depend
 use Rattle.hir_session_machine.specs.HirSessionState.Marks.{IsTouched}
 use Rattle.hir_session_machine.specs.HirSessionState.Marks.IsTouched.{before, asked_for}
 use Rattle.hir_session_machine.specs.HirSessionState.EditedSources.{seen_at}
-use Rattle.hir_session_machine.specs.HirSessionState.Changes.{Becomes}
+use Rattle.hir_session_machine.specs.HirSessionState.Changes.{Becomes, SetsCrate}
 use Rattle.hir_session_machine.specs.HirSessionState.Due.{IsBehind}
 use Rattle.hir_session_laws.specs.Laws.{AnswersAlike, BodyEditsMarkNothing, BodyEditsLeaveAnswers}
 use Rattle.hir_session_laws.specs.Laws.{ExpansionBodyEditsMarkNothing, ExpansionBodyEditsLeaveAnswers}
@@ -63,10 +67,16 @@ use Rattle.hir_session_laws.specs.Laws.{SetAbsentExpansionMarks, RemovePresentEx
 use Rattle.hir_session_laws.specs.Laws.{RemoveAbsentExpansionMarksNothing, RemoveAbsentExpansionLeavesAnswers}
 use Rattle.hir_session_laws.specs.Laws.{BlockBodyEditsMarkNothing, BlockBodyEditsLeaveAnswers, SetAbsentBlockMarks, RemovePresentBlockMarks}
 use Rattle.hir_session_laws.specs.Laws.{RemoveAbsentBlockMarksNothing, RemoveAbsentBlockLeavesAnswers, UnaskedSourcesMarkNothing, UnaskedSourcesLeaveAnswers}
-use Rattle.hir_session_laws.specs.Laws.{UnaskedSourcesLeaveCurrentAnswers, IsUnasked, edits_block}
-use Rattle.hir_session_machine.proofs.HirSessionAnswers.Differ.{ends_unmarked, same_answer, unmarked_behind}
+use Rattle.hir_session_laws.specs.Laws.{UnaskedSourcesLeaveCurrentAnswers, IsUnasked, is_of_block, SameDataMarkNothing}
+use Rattle.hir_session_laws.specs.Laws.{SameDataLeaveAnswers, OtherDataMarkTheCrate}
+use Rattle.hir_session_machine.proofs.HirSessionAnswers.Differ.{ends_unmarked, follows_alike, same_answer, unmarked_behind}
+use Rattle.hir_session_machine.specs.HirSessionState.Beginning.{IsConfigOf}
+use Rattle.hir_session_machine.specs.HirSessionState.Crates.{with_config}
+use Rattle.hir_session_machine.specs.HirSessionState.Changes.{IsHandedIn}
+use Rattle.hir_session_machine.proofs.HirSessionState.Renewed.{same_crates}
 use Rattle.hir_session_machine.proofs.HirSessionState.Truth.{clash, on_bool, no_value, one_value}
-use Rattle.hir_session_machine.proofs.HirSessionSources.SourceLemmas.{beside-differs, look-apart, look-differs, look-same, place_same, same_place, source_at-edited}
+use Rattle.hir_session_machine.proofs.HirSessionSources.SourceLemmas.{beside-differs, look-apart, look-differs, look-same}
+use Rattle.hir_session_machine.proofs.HirSessionSources.SourceLemmas.{place_same, same_place, source_at-edited}
 use Rattle.hir_session_machine.proofs.HirSessionSources.SourceLemmas.{treeless-same}
 
 -- each key that a run asked for sees what it saw
@@ -303,6 +313,7 @@ is_there (of_text text) = false
 is_there (of_input text) = false
 is_there (of_entry e) = false
 is_there (of_map m) = false
+is_there (of_config c) = false
 
 -- what is there is not absent
 there_is_none : (crates : List CrateValue) (key : TreeKey) (place : SourcePlaceValue) (x : SourceValue) (o : Option SourceValue) → o ≡ None
@@ -389,31 +400,54 @@ unasked_looks s edit none id r key kept has = look-apart s.crates s.tables s.sou
 
 -- so it marks nothing
 pub unasked_sources_mark_nothing : UnaskedSourcesMarkNothing
-unasked_sources_mark_nothing old new edit sound none is = unaltered_marks sound is (unasked_looks old (edit_of edit) none)
+unasked_sources_mark_nothing old new edit sound none is = unaltered_marks sound is (unasked_looks old edit none)
 
 -- an edit that isn't of a block leaves all blocks as they were
-blocks_stay : (t : SourceTable) (edit : EditValue) → edits_block edit ≡ false → (b : BlockPlace) → is_block_set (edited t (edit_of edit)).blocks b
+blocks_stay : (t : SourceTable) (edit : SourceEditValue) → is_of_block edit ≡ false → (b : BlockPlace) → is_block_set (edited t edit).blocks b
     ≡ is_block_set t.blocks b
-blocks_stay t (set_block place source) e b = clash refl e
-blocks_stay t (remove_block place) e b = clash refl e
-blocks_stay t (set_file path source) e b = refl
-blocks_stay t (remove_file path) e b = refl
-blocks_stay t (set_expansion key entry) e b = refl
-blocks_stay t (remove_expansion key) e b = refl
+blocks_stay t (of_block place new) e b = clash refl e
+blocks_stay t (of_file path new) e b = refl
+blocks_stay t (of_expansion key new) e b = refl
 
 pub unasked_sources_leave_answers : UnaskedSourcesLeaveAnswers
 unasked_sources_leave_answers old new edit sound none other is =
-    unaltered_answers sound is (unasked_looks old (edit_of edit) none) (blocks_stay old.sources edit other)
+    unaltered_answers sound is (unasked_looks old edit none) (blocks_stay old.sources edit other)
 
 -- at a place of a current map the answer stays, whatever the edit is of
 pub unasked_sources_leave_current_answers : RunsBindFromSources → PathsAnswerFromSources → PathsLeadToWhatIsThere → UnaskedSourcesLeaveCurrentAnswers
 unasked_sources_leave_current_answers runs answers leads old new edit place id path shadow style sound none is ends =
-    let marks = unaltered_marks sound is (unasked_looks old (edit_of edit) none) in
+    let marks = unaltered_marks sound is (unasked_looks old edit none) in
     let still = λ (j : MapId) (behind : IsBehind old id j). marks j ∙ unmarked_behind sound (ends_unmarked old sound place id ends) behind in
     same_answer {to = new} place path shadow style sound runs answers leads id ends (record {
-      crates = is.crates;
+      count = ap (λ (cs : List CrateValue). length cs) is.crates;
+      transitive = ap (λ (cs : List CrateValue). transitive_in cs id.krate.0) is.crates;
+      alike = λ j behind. follows_alike old new j is.crates (is.kept j (still j behind));
       tables = subst (λ (t : TablesValue). KeepsTables old.tables t) (sym is.tables) (KeepsTables-refl _);
       off = still;
       kept = λ j behind. is.kept j (still j behind);
       sound = is.sound;
     })
+
+-- ---- what crates are handed in with
+
+-- data that a crate has already leave the crates as they were
+same_data : (old new : SessionState) (krate : Crate) (given : CrateDataValue) → IsConfigOf given (crate_in old.crates krate.0).config
+    → SetsCrate old krate given new → Becomes old old.sources new
+same_data old new krate given so is =
+    subst (λ (cs : List CrateValue). IsHandedIn old (record { crates = cs; sources = old.sources }) new)
+    (same_crates old.crates krate.0 is.config (is.same so)) is.becomes
+
+pub same_data_mark_nothing : SameDataMarkNothing
+same_data_mark_nothing old new krate given sound so is =
+    unaltered_marks sound (same_data old new krate given so is) (λ id r key kept has. refl)
+
+pub same_data_leave_answers : SameDataLeaveAnswers
+same_data_leave_answers old new krate given sound so is =
+    unaltered_answers sound (same_data old new krate given so is) (λ id r key kept has. refl) (λ b. refl)
+
+-- others mark it
+pub other_data_mark_the_crate : OtherDataMarkTheCrate
+other_data_mark_the_crate old new krate given other is = elim is.marks [
+  | inl same ↦ absurd (other (subst (IsConfigOf given) same is.is))
+  | inr marked ↦ marked
+]

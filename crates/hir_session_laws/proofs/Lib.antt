@@ -1,3 +1,10 @@
 pub mod EditLaws
 pub mod SparedCrates
+pub mod UnnamedTraits
+pub mod KeptSources
+pub mod NamesGrowing
+pub mod KeptNames
 pub mod Numbering
+pub mod WrittenImpls
+pub mod NumberedSources
+pub mod ListsTold

@@ -16,19 +16,20 @@ use Rattle.hir_session_machine.specs.HirCollectorRules.Start.{Beginning}
 use Rattle.hir_session_machine.specs.HirCollectorRules.declared.source_database.Key.{Key}
 use Rattle.hir_session_machine.specs.HirCollectorRules.declared.source_database.Key.TheVariants as keys
 use Rattle.hir_session_machine.specs.HirDefCollectorLaws.BlockKeys.{CratesAskForNoBlock, block_of_key, in_blocks}
-use Rattle.hir_session_machine.specs.HirMessages.Edits.{set_file, remove_file, set_block, remove_block, set_expansion, remove_expansion}
+use Rattle.hir_session_machine.specs.HirMessages.Edits.{set_file, remove_file, set_block, remove_block, set_expansion, remove_expansion, set_crate}
 use Rattle.hir_session_machine.specs.HirSessionState.Changes.{Becomes}
 use Rattle.hir_session_machine.specs.HirSessionState.Crates.{beginning_in, id_of, transitive_in}
 use Rattle.hir_session_machine.specs.HirSessionState.Kept.{collected_of, placed_by}
 use Rattle.hir_session_machine.specs.HirSessionState.KeySources.{key_place}
 use Rattle.hir_session_machine.specs.HirSessionState.Marks.{IsTouched}
 use Rattle.hir_session_machine.specs.HirSessionState.Marks.IsTouched.{before, asked_for}
-use Rattle.hir_session_machine.specs.HirSessionState.SessionState.{SessionState, Resolution, finished_of, follows, is_marked, kept_of, read_under, workspace_of, IsSound}
+use Rattle.hir_session_machine.specs.HirSessionState.SessionState.{SessionState, Resolution, finished_of, follows, is_marked}
+use Rattle.hir_session_machine.specs.HirSessionState.SessionState.{kept_of, read_under, workspace_of, IsSound}
 use Rattle.hir_session_machine.specs.HirSessionState.SourceEdits.{edited, of_block}
 use Rattle.hir_session_machine.specs.HirSessionState.SourceTable.{workspace_in}
 use Rattle.hir_session_machine.specs.HirSessionState.Spread.{Spread}
 use Rattle.hir_session_machine.specs.HirSessionState.Spread.Spread.{here, depends}
-use Rattle.hir_session_machine.proofs.HirSessionState.Depending.{depended}
+use Rattle.hir_session_machine.proofs.HirSessionState.Depending.{depended, direct_below}
 use Rattle.hir_session_machine.proofs.HirSessionState.Following.{dependency_behind}
 use Rattle.hir_session_machine.proofs.HirSessionState.Ids.{of_number}
 use Rattle.hir_session_machine.proofs.HirSessionState.Names.{among_there}
@@ -68,6 +69,7 @@ key_apart t (keys.Expansion id) place none = go (entry_at t id)
     go None h = no_value h
     go (Some p) h = let same : expansion p ≡ block place = one_value h in absurd (let no : ⊥ = cc in no)
 key_apart t (keys.Map id) place none = λ e. no_value e
+key_apart t (keys.Config krate) place none = λ e. no_value e
 
 -- ---- what is kept of crates
 
@@ -85,7 +87,7 @@ module _ (law : CratesAskForNoBlock) (s : SessionState) (sound : IsSound s) wher
       go None kept h = no_value h
       go (Some x) kept h =
           let there = among_there (transitive_in s.crates k) (finished_of s) id placed e in
-          let lower : id.krate.0 < k = DependsOn-below sound.below ((depended sound k id.krate).0 there.1) in
+          let lower : id.krate.0 < k = DependsOn-below (direct_below s) ((depended sound k id.krate).0 there.1) in
           subst (λ (q : Placed). HoldsNowhereIn in_blocks q.map) (one_value h)
           (clear id.krate.0 (omega arith) x (ap (kept_of s) (sym (of_number id there.0)) ∙ kept)).1
 
@@ -128,3 +130,4 @@ block_edits_spare_the_crate law old new (set_file path source) k sound of_a_bloc
 block_edits_spare_the_crate law old new (remove_file path) k sound of_a_block is = clash of_a_block refl
 block_edits_spare_the_crate law old new (set_expansion key entry) k sound of_a_block is = clash of_a_block refl
 block_edits_spare_the_crate law old new (remove_expansion key) k sound of_a_block is = clash of_a_block refl
+block_edits_spare_the_crate law old new (set_crate krate given) k sound of_a_block is = clash of_a_block refl

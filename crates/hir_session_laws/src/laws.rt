@@ -2,7 +2,7 @@
 ghost use Rattle.hir_session_machine.specs.Headline.{RepliesHoldTheHeadline};
 ghost use Rattle.hir_session_machine.specs.HirSessionAnswers.Histories.{DifferOnlyWhereAltered};
 ghost use Rattle.hir_session_machine.specs.MachineHistories.{LinesBeginHistories};
-ghost use Rattle.hir_session_laws.specs.Laws.{BodyEditsMarkNothing, BodyEditsLeaveAnswers, ExpansionBodyEditsMarkNothing, ExpansionBodyEditsLeaveAnswers, SetAbsentFileMarks, RemovePresentFileMarks, RemoveAbsentFileMarksNothing, RemoveAbsentFileLeavesAnswers, SetAbsentExpansionMarks, RemovePresentExpansionMarks, RemoveAbsentExpansionMarksNothing, RemoveAbsentExpansionLeavesAnswers, BlockBodyEditsMarkNothing, BlockBodyEditsLeaveAnswers, SetAbsentBlockMarks, RemovePresentBlockMarks, RemoveAbsentBlockMarksNothing, RemoveAbsentBlockLeavesAnswers, BlockEditsSpareTheCrate, UnaskedSourcesMarkNothing, UnaskedSourcesLeaveAnswers, UnaskedSourcesLeaveCurrentAnswers, NumbersChangeNoAnswer};
+ghost use Rattle.hir_session_laws.specs.Laws.{BodyEditsMarkNothing, BodyEditsLeaveAnswers, ExpansionBodyEditsMarkNothing, ExpansionBodyEditsLeaveAnswers, SetAbsentFileMarks, RemovePresentFileMarks, RemoveAbsentFileMarksNothing, RemoveAbsentFileLeavesAnswers, SetAbsentExpansionMarks, RemovePresentExpansionMarks, RemoveAbsentExpansionMarksNothing, RemoveAbsentExpansionLeavesAnswers, BlockBodyEditsMarkNothing, BlockBodyEditsLeaveAnswers, SetAbsentBlockMarks, RemovePresentBlockMarks, RemoveAbsentBlockMarksNothing, RemoveAbsentBlockLeavesAnswers, BlockEditsSpareTheCrate, UnaskedSourcesMarkNothing, UnaskedSourcesLeaveAnswers, UnaskedSourcesLeaveCurrentAnswers, SameDataMarkNothing, SameDataLeaveAnswers, OtherDataMarkTheCrate, NumbersChangeNoAnswer, NamesAreToldWhole, TraitsAreToldWhole, ImplsAreToldWhole, ImplModulesAreThere, TraitsAreToldAlike, ImplsAreToldAlike};
 
 use hir_item_tree::laws::body_texts_leave_the_tree;
 use hir_session_machine::hir_session_core::hir_session_state::hir_def_collector_laws::laws::{
@@ -24,6 +24,37 @@ pub fn answers_differ_only_where_altered()
 /// A query for the items of a trait or an impl gives numbers to macro calls, and these change no answer.
 pub fn numbers_change_no_answer()
     ensures law { NumbersChangeNoAnswer }
+{
+    runs_bind_from_sources();
+    paths_answer_from_sources();
+    paths_lead_to_what_is_there();
+}
+
+/// The names of a module leave out nothing that a name stands for, and no trait that the module has without a name.
+pub fn names_are_told_whole()
+    ensures names { NamesAreToldWhole }
+{
+    runs_bind_from_sources();
+    paths_answer_from_sources();
+    paths_lead_to_what_is_there();
+}
+
+/// A list of a trait's items, or an impl's, leaves out no item and no call, nor what went wrong, if the module is there that holds the trait or the impl;
+/// an impl's is.
+pub fn lists_are_told_whole()
+    ensures traits { TraitsAreToldWhole }
+    ensures impls { ImplsAreToldWhole }
+    ensures there { ImplModulesAreThere }
+{
+    runs_bind_from_sources();
+    paths_answer_from_sources();
+    paths_lead_to_what_is_there();
+}
+
+/// A list of a trait's items, or an impl's, that is asked for again is told alike where nothing was changed but tables that grew.
+pub fn lists_are_told_alike()
+    ensures traits { TraitsAreToldAlike }
+    ensures impls { ImplsAreToldAlike }
 {
     runs_bind_from_sources();
     paths_answer_from_sources();
@@ -136,3 +167,14 @@ pub fn unasked_sources_mark_nothing()
     paths_answer_from_sources();
     paths_lead_to_what_is_there();
 }
+
+/// Data that a crate has already leave every mark and every answer as it is.
+pub fn same_data_mark_nothing()
+    ensures law { SameDataMarkNothing }
+    ensures answers { SameDataLeaveAnswers }
+{}
+
+/// Other data than it has mark a crate.
+pub fn other_data_mark_the_crate()
+    ensures law { OtherDataMarkTheCrate }
+{}

@@ -6,7 +6,8 @@ use Rattle.std.specs.declared.alloc.Global.{Global}
 use Rattle.hir_session_core.specs.HirBase.Place.{PlaceValue}
 use Rattle.hir_session_core.specs.HirBase.declared.limit.Limit.TheVariants as limit
 use Rattle.hir_session_core.specs.HirIds.declared.ids.Crate.{Crate}
-use Rattle.hir_session_core.specs.HirMessages.CommandValue.{CommandValue, CrateInputValue, crate_modules, crates, diagnostics, dump, edit, file_modules, impl_items, names}
+use Rattle.hir_session_core.specs.HirMessages.CommandValue.{CommandValue, CrateInputValue, crate_modules, crates, diagnostics}
+use Rattle.hir_session_core.specs.HirMessages.CommandValue.{dump, edit, file_modules, impl_items, names}
 use Rattle.hir_session_core.specs.HirMessages.CommandValue.{refresh, resolve, status, trait_items, tree}
 use Rattle.hir_session_core.specs.HirMessages.Edits.{EditValue}
 use Rattle.hir_session_core.specs.HirMessages.declared.names.BoundName.{BoundName}
@@ -92,6 +93,7 @@ said {s} {t} {answer = answer} (lists_file_modules path is same told) = subst (�
 edit_done : (why : EditError) → reply.Done ≢ edit_reply why
 edit_done edit_error.UnknownCrate told = let wrong : ⊥ = cc told in wrong
 edit_done (edit_error.TooLarge most) told = let wrong : ⊥ = cc told in wrong
+edit_done (edit_error.DependencyOrder krate) told = let wrong : ⊥ = cc told in wrong
 edit_done (edit_error.DuplicateId kind id) told = let wrong : ⊥ = cc told in wrong
 edit_done edit_error.Memory told = let wrong : ⊥ = cc told in wrong
 

@@ -5,7 +5,9 @@ use Rattle.std.specs.List.{list_any}
 use Rattle.hir_session_core.specs.HirIds.declared.ids.Crate.{Crate}
 use Rattle.hir_session_core.specs.HirMessages.CommandValue.{CommandValue, CrateInputValue}
 use Rattle.hir_session_core.specs.HirMessages.declared.reply.Reply.{Reply}
+use Rattle.hir_session_core.specs.HirSessionState.Changes.{AppliesTo}
 use Rattle.hir_session_core.specs.HirSessionState.SessionState.{SessionState, IsSound, max_crates}
+use Rattle.hir_session_core.specs.HirSessionState.SourceEdits.{InputEdit, edit_of, source_edit, crate_edit}
 use Rattle.hir_session_core.specs.HirSessionState.Refusals.{first_out_of_order, is_too_deep, is_too_long, verdict_of_limits, verdict_of_order, verdict_of_new}
 use Rattle.hir_session_core.proofs.HirSessionState.Truth.{on_bool}
 use Rattle.hir_session_core.proofs.HirSessionSources.Start.{begins_sound}
@@ -86,10 +88,15 @@ after_lines {new = new} (line ∷ lines) (answer ∷ answers) h done =
 after_lines [] (answer ∷ answers) h wrong = absurd wrong
 after_lines (line ∷ lines) [] h wrong = absurd wrong
 
+-- an edit leaves a sound session
+applied_sound : (old new : SessionState) (e : InputEdit) → AppliesTo old e new → IsSound new
+applied_sound old new (source_edit s) is = is.sound
+applied_sound old new (crate_edit krate given) is = is.becomes.sound
+
 -- a history leads from a sound session to a sound one
 pub history_sound : {from to : SessionState} → IsSound from → History from to → IsSound to
 history_sound sound none = sound
-history_sound sound (edit mid to e earlier is) = is.sound
+history_sound sound (edit mid to e earlier is) = applied_sound _ _ (edit_of e) is
 history_sound sound (refresh mid to done earlier is) = is.sound
 history_sound sound (numbers mid to earlier grown) = grown.sound
 

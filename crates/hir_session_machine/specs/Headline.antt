@@ -6,7 +6,8 @@ use Rattle.hir_session_core.specs.HirBase.Place.{PlaceValue}
 use Rattle.hir_session_core.specs.HirIds.declared.ids.Crate.{Crate}
 use Rattle.hir_session_core.specs.HirIds.declared.ids.ModuleId.{ModuleId}
 use Rattle.hir_session_core.specs.HirCollectorRules.declared.source_database.Key.{Key}
-use Rattle.hir_session_core.specs.HirMessages.CommandValue.{CommandValue, CrateInputValue, crate_modules, crates, diagnostics, dump, edit, file_modules, impl_items, names}
+use Rattle.hir_session_core.specs.HirMessages.CommandValue.{CommandValue, CrateInputValue, crate_modules, crates, diagnostics}
+use Rattle.hir_session_core.specs.HirMessages.CommandValue.{dump, edit, file_modules, impl_items, names}
 use Rattle.hir_session_core.specs.HirMessages.CommandValue.{refresh, resolve, status, trait_items, tree}
 use Rattle.hir_wire.specs.Commands.{reading_of}
 use Rattle.hir_session_core.specs.HirMessages.Edits.{EditValue}

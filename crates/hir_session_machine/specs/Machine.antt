@@ -7,7 +7,8 @@ use Rattle.hir_session_core.specs.HirIds.declared.ids.Crate.{Crate}
 use Rattle.hir_session_core.specs.HirIds.declared.ids.ImplId.{ImplId}
 use Rattle.hir_session_core.specs.HirIds.declared.ids.TraitId.{TraitId}
 use Rattle.hir_session_core.specs.HirMessages.Edits.{EditValue}
-use Rattle.hir_session_core.specs.HirMessages.CommandValue.{CommandValue, CrateInputValue, crate_modules, crates, diagnostics, dump, edit, file_modules, impl_items, names, refresh}
+use Rattle.hir_session_core.specs.HirMessages.CommandValue.{CommandValue, CrateInputValue, crate_modules, crates, diagnostics}
+use Rattle.hir_session_core.specs.HirMessages.CommandValue.{dump, edit, file_modules, impl_items, names, refresh}
 use Rattle.hir_session_core.specs.HirMessages.CommandValue.{resolve, status, trait_items, tree}
 use Rattle.hir_wire.specs.Commands.{reading_of}
 use Rattle.hir_session_core.specs.HirMessages.declared.items.Items.{Items}
@@ -37,7 +38,8 @@ use Rattle.hir_session_core.specs.HirSessionAnswers.Dumps.{dump_at}
 use Rattle.hir_session_core.specs.HirSessionAnswers.Modules.{file_modules_of, modules_of}
 use Rattle.hir_session_core.specs.HirSessionAnswers.Names.{names_of}
 use Rattle.hir_session_core.specs.HirSessionAnswers.AssocItems.{impl_at, trait_at, ListsImpl, ListsTrait, RefusesImpl, RefusesTrait}
-use Rattle.hir_session_replies.specs.Replies.{new_reply, edit_reply, refresh_reply, query_error_reply, query_reply, trait_items_reply, impl_items_reply, tree_text_reply, diagnostics_reply, modules_reply, names_reply, read_reply}
+use Rattle.hir_session_replies.specs.Replies.{new_reply, edit_reply, refresh_reply, query_error_reply, query_reply, trait_items_reply, impl_items_reply}
+use Rattle.hir_session_replies.specs.Replies.{tree_text_reply, diagnostics_reply, modules_reply, names_reply, read_reply}
 
 -- ---- items of traits and impls
 

@@ -37,6 +37,7 @@ new_reply new_error.Memory = reply.Memory
 abbrev pub edit_reply : EditError → Reply
 edit_reply edit_error.UnknownCrate = reply.UnknownCrate
 edit_reply (edit_error.TooLarge limit) = reply.TooLarge limit
+edit_reply (edit_error.DependencyOrder krate) = reply.DependencyOrder krate
 edit_reply (edit_error.DuplicateId kind id) = reply.DuplicateId kind id
 edit_reply edit_error.Memory = reply.Memory
 

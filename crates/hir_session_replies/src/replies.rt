@@ -25,6 +25,7 @@ pub fn edit_error_reply(error: EditError) -> Reply
     match error {
         EditError::UnknownCrate => Reply::UnknownCrate,
         EditError::TooLarge(limit) => Reply::TooLarge(limit),
+        EditError::DependencyOrder(krate) => Reply::DependencyOrder(krate),
         EditError::DuplicateId { kind, id } => Reply::DuplicateId { kind, id },
         EditError::Memory => Reply::Memory,
     }

@@ -7,4 +7,5 @@ pub mod Expansions
 pub mod BlockLemmas
 pub mod SourceLemmas
 pub mod TreeLemmas
+pub mod Forgetting
 pub mod Changing

@@ -18,7 +18,8 @@ use Rattle.hir_session_state.specs.HirTables.Tables as numbers
 use Rattle.hir_session_state.specs.HirTables.Tables.{TablesValue, source_of}
 use Rattle.hir_session_state.specs.HirDefMapRules.Overlay.{no_maps}
 use Rattle.hir_session_state.specs.HirCollectorRules.Workspace.{EntryLook, Workspace, seen_of}
-use Rattle.hir_session_state.specs.HirCollectorRules.Keys.{entry_under, input_of, look, of_entry, of_input, of_text, of_tree, of_variants, source_in, source_under, text_of}
+use Rattle.hir_session_state.specs.HirCollectorRules.Keys.{entry_under, input_of, look, of_entry, of_input, of_text}
+use Rattle.hir_session_state.specs.HirCollectorRules.Keys.{of_tree, of_variants, source_in, source_under, text_of}
 use Rattle.hir_session_state.specs.HirCollectorRules.declared.source_database.Key.{Key}
 use Rattle.hir_session_state.specs.HirCollectorRules.declared.source_database.Key.TheVariants as keys
 use Rattle.hir_session_state.specs.HirMessages.Edits.{EntryValue}
@@ -125,6 +126,7 @@ look-tree tables w (keys.Text (macros.ProcMacroId id)) tree e = no_value e
 look-tree tables w (keys.Input krate ast) tree e = ap (λ (k : TreeKey). of_input (input_of (source_in tables w k) (node_id ast.kind ast.id))) (one_value e)
 look-tree tables w (keys.Expansion id) tree e = no_value e
 look-tree tables w (keys.Map id) tree e = no_value e
+look-tree tables w (keys.Config krate) tree e = no_value e
 
 -- the source for which it asks is that of the tree
 pub place-tree : (tables : TablesValue) (key : Key) (tree : TreeKey) → key_tree key ≡ Some tree → key_place tables key ≡ source_of tables tree.id
@@ -134,6 +136,7 @@ place-tree tables (keys.Text id) tree e = ap (λ (o : Option TreeKey). tree_plac
 place-tree tables (keys.Input krate ast) tree e = ap (λ (k : TreeKey). source_of tables k.id) (one_value e)
 place-tree tables (keys.Expansion id) tree e = no_value e
 place-tree tables (keys.Map id) tree e = no_value e
+place-tree tables (keys.Config krate) tree e = no_value e
 
 module _ (crates : List CrateValue) (tables : TablesValue) (t : SourceTable) (edit : SourceEditValue) where
   abbrev now : Workspace
@@ -214,6 +217,7 @@ module _ (crates : List CrateValue) (tables : TablesValue) (t : SourceTable) (ed
       without (keys.Input krate ast) e apart = no_value (sym e)
       without (keys.Expansion id) e apart = ap (λ (l : EntryLook). of_entry l) (beside-other (numbers.entry_at tables id) apart)
       without (keys.Map id) e apart = refl
+      without (keys.Config krate) e apart = refl
 
       go : (o : Option TreeKey) → key_tree key ≡ o → IsSame key
       go None e = without key e ne
@@ -272,6 +276,7 @@ module _ (crates : List CrateValue) (tables : TablesValue) (t : SourceTable) (ed
   treeless (keys.Input krate ast) e asks f = no_value (sym e)
   treeless (keys.Expansion id) e asks f = f id refl
   treeless (keys.Map id) e asks f = no_value asks
+  treeless (keys.Config krate) e asks f = no_value asks
 
   pub treeless-same : (key : Key) → key_tree key ≡ None → key_place tables key ≡ Some (place_of edit) → IsSeenAlike t edit → IsSame key
   treeless-same key e asks alike = treeless key e asks (λ id is.

@@ -9,7 +9,7 @@ use Rattle.hir_session_state.specs.HirCollectorRules.declared.source_database.De
 use Rattle.hir_session_state.specs.HirMessages.CommandValue.{CrateInputValue, crate_input_view}
 use Rattle.hir_session_state.specs.HirMessages.declared.command.CrateInput.{CrateInput}
 use Rattle.hir_session_state.specs.HirMessages.declared.command.Dependency.{Dependency as HandedIn}
-use Rattle.hir_session_state.specs.Crates.{CrateValue, crate_in, dependencies_in, no_crate}
+use Rattle.hir_session_state.specs.Crates.{CrateValue, crate_in, named_in, no_crate}
 use Rattle.hir_session_state.specs.SourceTable.{SourceTable}
 use Rattle.hir_session_state.specs.Kept.{Resolutions, kept_in}
 use Rattle.hir_session_state.specs.SessionState.{SessionState, Resolution, is_marked, IsSound}
@@ -113,7 +113,7 @@ added_by input old new before after c made number root is_root found is_number l
 
 -- where no crate is out of order, each dependency comes before its crate
 pub below_from : (n : ℕ) (inputs : List CrateInputValue) (crates : List CrateValue) → AreMade inputs crates → first_out_of_order n inputs ≡ None
-    → (k : ℕ) (d : Crate) → Contains (dependencies_in crates k) d → d.0 < n + k
+    → (k : ℕ) (d : Crate) → Contains (named_in crates k) d → d.0 < n + k
 below_from n [] [] made none k d among = absurd (let h : among.0 < 0 = among.1 in omega arith)
 below_from n [] (c ∷ cs) made none k d among = absurd made
 below_from n (i ∷ is) [] made none k d among = absurd made

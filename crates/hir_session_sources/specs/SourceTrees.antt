@@ -1,5 +1,5 @@
 -- What does a session keep of its sources beside them? No public clause speaks of this.
-use Rattle.std.specs.Prelude.{◌≡◌, nat_eq, Bool, false, ◌&&◌, List, Option, Some, None, option_map, if◌then◌else◌}
+use Rattle.std.specs.Prelude.{◌≡◌, nat_eq, Bool, false, ◌&&◌, is_some, List, Option, Some, None, option_map, if◌then◌else◌}
 use Rattle.std.specs.Option.{option_and_then}
 use Rattle.std.specs.BTreeMap.{BTreeMap, get, is_at}
 use Rattle.std.specs.Cmp.Lexicographic.{slice_cmp}
@@ -28,6 +28,10 @@ CrateTrees = BTreeMap Crate (Rc SourceTreeValue Global)
 -- what it has under a crate, if that is kept
 abbrev pub tree_by : CrateTrees → Crate → Option SourceTreeValue
 tree_by trees krate = option_map (λ t. t.value) (get crate_order.ghosts.cmp trees krate)
+
+-- whether something is kept under a crate
+abbrev pub is_under : CrateTrees → Crate → Bool
+is_under trees krate = is_some (get crate_order.ghosts.cmp trees krate)
 
 -- what is kept of the source at a place under a crate: of a block what it has under its own, and of an expansion what it has under
 -- the crate that calls

@@ -1,6 +1,7 @@
 //! What a session begins with.
 ghost use Rattle.std.specs.Prelude.{◌≡◌, ◌<◌, ◌^◌, map, true, Some, IfOk, OnOk, option_map};
 ghost use Rattle.hir_session_state.specs.HirBase.CfgOptions.{SetAlike};
+ghost use Rattle.hir_session_state.specs.HirItemTree.Attributes.{attributes_view};
 ghost use Rattle.hir_session_state.specs.HirMessages.CommandValue.{crate_input_view};
 ghost use Rattle.hir_session_state.specs.Refusals.{dependency_crates, has_late, first_out_of_order};
 ghost use Rattle.hir_session_state.specs.Beginning.{dependency_of, IsAdded, IsConfigOf, IsMade, AreMade, AreRooted};
@@ -12,7 +13,9 @@ use crate::crates::Crates;
 use hir_base::ast_id::FileId;
 use hir_base::cfg::CfgAtom;
 use hir_base::cfg_options::CfgOptions;
+use hir_base::edition::Edition;
 use hir_base::file_path::FilePath;
+use hir_item_tree::raw_attr::RawAttr;
 use hir_session_state::front::copy_attrs;
 use hir_session_state::hir_collector_rules::source_database::{
     Config, CrateRoot, Dependency as RunDependency,
@@ -40,7 +43,7 @@ fn dependencies_of(
 }
 
 /// Whether a dependency doesn't come before the crate.
-fn has_late_dependency(k: usize, dependencies: &[Dependency]) -> bool
+pub fn has_late_dependency(k: usize, dependencies: &[Dependency]) -> bool
     ensures value { result ≡ has_late k (dependency_crates dependencies.now) }
     ensures fits { result ≡ true → k < 2 ^ 32 }
 {
@@ -75,15 +78,22 @@ fn options_of(alloc: Global, atoms: &Vec<CfgAtom>) -> Result<CfgOptions, AllocEr
     Ok(options)
 }
 
-/// What a crate was handed in with, its root aside.
-fn config_of(alloc: Global, input: &CrateInput) -> Result<Config, AllocError>
-    ensures config { IfOk result (λ c. IsConfigOf (crate_input_view input.now) (config_view c)) }
+/// What a crate is handed in with, its root aside.
+pub fn config_of(
+    alloc: Global,
+    edition: Edition,
+    attrs: &Vec<RawAttr>,
+    cfg: &Vec<CfgAtom>,
+    deps: &[Dependency],
+) -> Result<Config, AllocError>
+    ensures config { IfOk result (λ c. IsConfigOf
+        (record { edition = edition; attributes = attributes_view attrs.now.items; options = cfg.now.items; deps = deps.now }) (config_view c)) }
 {
-    let attributes = copy_attrs(alloc, &input.attrs)?;
-    let dependencies = dependencies_of(alloc, input.deps.as_slice())?;
-    let options = options_of(alloc, &input.cfg)?;
+    let attributes = copy_attrs(alloc, attrs)?;
+    let dependencies = dependencies_of(alloc, deps)?;
+    let options = options_of(alloc, cfg)?;
     Ok(Config {
-        edition: input.edition,
+        edition,
         attributes,
         dependencies,
         options,
@@ -95,7 +105,13 @@ fn info_of(alloc: Global, file: FileId, input: &CrateInput) -> Result<CrateInfo,
     ensures made { IfOk result (λ c. IsMade (crate_input_view input.now) c) }
     ensures number { IfOk result (λ c. c.file ≡ file) }
 {
-    let config = config_of(alloc, input)?;
+    let config = config_of(
+        alloc,
+        input.edition,
+        &input.attrs,
+        &input.cfg,
+        input.deps.as_slice(),
+    )?;
     let own = CrateRoot {
         root: input.root.clone()?,
         is_proc_macro: input.proc_macro,

@@ -58,6 +58,13 @@ impl CrateInfo {
         &self.config
     }
 
+    /// Has it handed in with this.
+    pub fn set_config(&mut self, config: Config)
+        ensures value { self.new ≡ record self.old { config = config_view config } }
+    {
+        self.config = config;
+    }
+
     /// Its root file, in its edition.
     pub fn root(&self) -> EditionedFileId
         ensures value { result ≡ root_of self.now }

@@ -8,6 +8,7 @@ pub mod crate_info;
 pub mod crates;
 mod entries;
 pub mod files;
+pub mod same_config;
 pub mod seen_entry;
 pub mod source_edit;
 pub mod source_table;

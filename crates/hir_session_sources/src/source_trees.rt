@@ -3,14 +3,18 @@
 //! It is kept by the place of a source, and then by crate. A run hands in the place and has the tables for itself, so no
 //! number is at hand by which `Trees` would find it. A block is asked for under its own crate, and an expansion under the crate
 //! that calls; what they have under others is made anew.
-ghost use Rattle.std.specs.Prelude.{◌≡◌, None, Some, IfOk, OnOk, OnErr, option_map, if◌then◌else◌, false};
+ghost use Rattle.std.specs.Prelude.{◌≡◌, nat_eq, None, Some, IfOk, OnOk, OnErr, filter, not, option_map, if◌then◌else◌, false};
+ghost use Rattle.std.specs.Cmp.Lexicographic.{slice_cmp};
+ghost use Rattle.std.specs.List.Sorted.{IsStrictlySortedBy};
+ghost use Rattle.std.specs.Map.{keys_of};
+ghost use Rattle.std.specs.Ordering.{nat_cmp};
 ghost use Rattle.hir_session_state.specs.HirIds.declared.ids.Crate.{Crate};
 ghost use Rattle.hir_session_state.specs.HirBase.CfgOptions.{is_set};
 ghost use Rattle.hir_session_state.specs.HirItemTree.Source.{source_view};
 ghost use Rattle.hir_session_state.specs.HirItemTree.SourceTree.{SourceTreeValue, source_tree_of};
 ghost use Rattle.hir_session_state.specs.HirTables.SourcePlaces.{SourcePlaceValue, block, expansion, expansion_value, file, source_value};
 ghost use Rattle.hir_session_state.specs.SourceTable.{front_in, tree_under};
-ghost use Rattle.hir_session_sources.specs.SourceTrees.{is_kept_at, is_place, tree_by, tree_in};
+ghost use Rattle.hir_session_sources.specs.SourceTrees.{is_kept_at, is_place, is_under, tree_by, tree_in};
 
 use crate::copied_key::copied_key;
 use crate::crate_info::CrateInfo;
@@ -46,6 +50,28 @@ pub fn copied_place(place: &BlockPlace) -> Result<BlockPlace, AllocError>
         holder: place.holder.clone()?,
         id: place.id,
     })
+}
+
+/// Drops what files have that have something under a crate.
+fn forget_files(files: &mut BTreeMap<FilePath, CrateTrees>, krate: Crate)
+    ensures value { files.new.entries ≡ filter (λ e. not (is_under e.1 krate)) files.old.entries }
+    ensures sorted { IsStrictlySortedBy (slice_cmp nat_cmp) (keys_of files.old.entries) }
+{
+    files.retain(|_, kept| !kept.contains_key(&krate));
+}
+
+/// Drops what blocks of a crate have.
+fn forget_blocks(blocks: &mut BTreeMap<BlockPlace, Rc<SourceTree>>, krate: Crate)
+    ensures value { blocks.new.entries ≡ filter (λ e. not (nat_eq e.0.holder.krate.0 krate.0)) blocks.old.entries }
+{
+    blocks.retain(|place, _| place.holder.krate() != krate);
+}
+
+/// Drops what expansions have whose macros a crate calls.
+fn forget_expansions(expansions: &mut BTreeMap<ExpansionKey, Rc<SourceTree>>, krate: Crate)
+    ensures value { expansions.new.entries ≡ filter (λ e. not (nat_eq e.0.caller.0 krate.0)) expansions.old.entries }
+{
+    expansions.retain(|key, _| key.caller != krate);
 }
 
 impl SourceTrees {
@@ -195,6 +221,16 @@ impl SourceTrees {
         ensures others { (p : SourcePlaceValue) (c : Crate) → is_place (block place.now) p ≡ false → tree_in self.new p c ≡ tree_in self.old p c }
     {
         self.by_block.remove(place);
+    }
+
+    /// Drops what is kept of sources under a crate; of a file that has something under it, what it has under others too.
+    pub fn forget_crate(&mut self, krate: Crate)
+        ensures gone { (place : SourcePlaceValue) → tree_in self.new place krate ≡ None }
+        ensures kept { (place : SourcePlaceValue) (c : Crate) (t : SourceTreeValue) → tree_in self.new place c ≡ Some t → tree_in self.old place c ≡ Some t }
+    {
+        forget_files(&mut self.by_path, krate);
+        forget_blocks(&mut self.by_block, krate);
+        forget_expansions(&mut self.by_key, krate);
     }
 
     /// Drops what is kept of an expansion.

@@ -7,7 +7,8 @@ use Rattle.hir_collector_rules.specs.HirIds.declared.ids.Crate.{Crate}
 use Rattle.hir_collector_rules.specs.HirCrateGraph.CrateSet.{has_crate}
 use Rattle.hir_collector_rules.specs.HirCrateGraph.Dependencies.{DependsOn, has_late}
 use Rattle.hir_collector_rules.proofs.HirCrateGraph.Closure.{transitive_agree}
-use Rattle.hir_session_state.specs.Crates.{dependencies_in, transitive_in}
+use Rattle.hir_collector_rules.proofs.Dependencies.{all_earlier, among_earlier, ordered_by}
+use Rattle.hir_session_state.specs.Crates.{config_in, dependencies_in, named_in, transitive_in}
 use Rattle.hir_session_state.specs.SessionState.{SessionState, dependencies_of, IsSound}
 use Rattle.hir_session_state.proofs.Truth.{clash, on_bool, or_first}
 
@@ -31,6 +32,10 @@ found-any test (x ∷ xs) h = on_bool (test x)
     (λ off. let rest : list_any test xs ≡ true = or_first _ _ h off in
     let there = found-any test xs rest in (there.0, (suc there.1.0, (let below : there.1.0 < length xs = there.1.1 in omega arith), there.1.2), there.2))
 
+-- a direct dependency comes before its crate
+pub direct_below : (s : SessionState) (k : ℕ) (d : Crate) → Contains (dependencies_of s k) d → d.0 < k
+direct_below s k d among = (among_earlier k (named_in s.crates k) d among).1
+
 -- a number below another is not at least that
 not_le : (k d : ℕ) → d < k → nat_le k d ≡ false
 not_le k d lower = grind (arith, nat_tests, lower)
@@ -41,4 +46,8 @@ early k ds before = none_of (λ (d : Crate). nat_le k d.0) ds (λ d among. not_l
 
 -- those of a crate of a session
 pub depended : {s : SessionState} → IsSound s → (k : ℕ) (c : Crate) → (has_crate (transitive_in s.crates k) c ≡ true) ↔ DependsOn (dependencies_of s) k c.0
-depended {s} sound k c = transitive_agree (dependencies_in s.crates) k (λ j lt. early j (dependencies_in s.crates j) (λ d among. sound.below j d among)) c
+depended {s} sound k c = transitive_agree (dependencies_in s.crates) k (ordered_by (config_in s.crates) (suc k)) c
+
+-- each crate that one names as a dependency is one
+pub named_direct : {s : SessionState} → IsSound s → (k : ℕ) → dependencies_of s k ≡ named_in s.crates k
+named_direct {s} sound k = all_earlier k (named_in s.crates k) (early k (named_in s.crates k) (λ d among. sound.below k d among))

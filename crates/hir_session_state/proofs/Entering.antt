@@ -12,7 +12,7 @@ use Rattle.hir_collector_rules.specs.HirIds.declared.ids.MapId.{MapId}
 use Rattle.hir_collector_rules.specs.HirIds.contracts.ids.MapIdOrd.TheImpl as map_order
 use Rattle.hir_collector_rules.specs.HirTables.Tables.{TablesValue}
 use Rattle.hir_collector_rules.specs.Asked.{IsOwnPart}
-use Rattle.hir_collector_rules.specs.Keys.{map_key, map_keys}
+use Rattle.hir_collector_rules.specs.Keys.{config_key, dependency_keys, keys_behind, map_key}
 use Rattle.hir_collector_rules.specs.declared.source_database.Key.{Key}
 use Rattle.hir_collector_rules.specs.contracts.source_database.KeyOrd.TheImpl as key_order
 use Rattle.hir_session_state.specs.contracts.source_number.SourceNumberOrd.TheImpl as number_order
@@ -274,14 +274,28 @@ entered_part tables old now all own enters n k id e =
 
 -- ---- all keys of a run
 
--- no key of a map asks for a source
-of_maps : (tables : TablesValue) (crates : List Crate) (n : SourceNumber) (k : Key) → asks tables n k ≡ true → list_any (is_key k) (map_keys crates) ≡ false
-of_maps tables [] n k on = refl
-of_maps tables (c ∷ cs) n k on = go (of_maps tables cs n k on) (is_key k (map_key c)) refl
+-- a key that asks for no source is apart from one that does
+apart_key : (tables : TablesValue) (n : SourceNumber) (k other : Key) → asks tables n k ≡ true → asks tables n other ≡ false → is_key k other ≡ false
+apart_key tables n k other on off = go (is_key k other) refl
   where
-    go : list_any (is_key k) (map_keys cs) ≡ false → (b : Bool) → is_key k (map_key c) ≡ b → (b || list_any (is_key k) (map_keys cs)) ≡ false
-    go rest true e = clash on (ap (asks tables n) (equal_key k (map_key c) e))
-    go rest false e = rest
+    go : (b : Bool) → is_key k other ≡ b → b ≡ false
+    go true e = clash on (ap (asks tables n) (equal_key k other e) ∙ off)
+    go false e = refl
+
+-- no key of a crate asks for a source
+of_dependencies : (tables : TablesValue) (crates : List Crate) (n : SourceNumber) (k : Key) → asks tables n k ≡ true
+    → list_any (is_key k) (dependency_keys crates) ≡ false
+of_dependencies tables [] n k on = refl
+of_dependencies tables (c ∷ cs) n k on =
+    ap (λ (b : Bool). b || (is_key k (config_key c) || list_any (is_key k) (dependency_keys cs))) (apart_key tables n k (map_key c) on refl)
+    ∙ ap (λ (b : Bool). b || list_any (is_key k) (dependency_keys cs)) (apart_key tables n k (config_key c) on refl)
+    ∙ of_dependencies tables cs n k on
+
+of_behind : (tables : TablesValue) (krate : Crate) (crates : List Crate) (n : SourceNumber) (k : Key) → asks tables n k ≡ true
+    → list_any (is_key k) (keys_behind krate crates) ≡ false
+of_behind tables krate crates n k on =
+    ap (λ (b : Bool). b || list_any (is_key k) (dependency_keys crates)) (apart_key tables n k (config_key krate) on refl)
+    ∙ of_dependencies tables crates n k on
 
 -- so the keys of the steps ask for what all keys do
 pub asked_own : (tables : TablesValue) (own all : List Key) → IsOwnPart own all → (n : SourceNumber) (k : Key) → is_asked tables own n k
@@ -291,8 +305,8 @@ asked_own tables own all part n k = go (asks tables n k) refl
     go : (b : Bool) → asks tables n k ≡ b → (list_any (is_key k) own && b) ≡ (list_any (is_key k) all && b)
     go true on = ap (λ (b : Bool). b && true) (sym (
         ap (list_any (is_key k)) part.is
-        ∙ list_any-append (is_key k) own (map_keys part.dependencies)
-        ∙ ap (λ (b : Bool). list_any (is_key k) own || b) (of_maps tables part.dependencies n k on)
+        ∙ list_any-append (is_key k) own (keys_behind part.krate part.dependencies)
+        ∙ ap (λ (b : Bool). list_any (is_key k) own || b) (of_behind tables part.krate part.dependencies n k on)
         ∙ or-false (list_any (is_key k) own)))
     go false off = and-false (list_any (is_key k) own) ∙ sym (and-false (list_any (is_key k) all))
 

@@ -98,6 +98,7 @@ exact_key (keys.Input c a) (keys.Input d b) e =
     (exact_ast a b (second_so (nat_eq c.0 d.0) (ast_eq.ghosts.eq a b) e) i)
 exact_key (keys.Expansion a) (keys.Expansion b) e = λ i. keys.Expansion (record { 0 = same_nat a.0 b.0 e i })
 exact_key (keys.Map a) (keys.Map b) e = ap keys.Map (exact_map a b e)
+exact_key (keys.Config a) (keys.Config b) e = λ i. keys.Config (record { 0 = same_nat a.0 b.0 e i })
 exact_key a b e = absurd (true≢false (sym e))
 
 -- ---- one key among others

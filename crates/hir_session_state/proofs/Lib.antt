@@ -1,4 +1,7 @@
 pub mod Truth
+pub mod Renewed
+pub mod OwnKeys
+pub mod Options
 pub mod Depending
 pub mod Ids
 pub mod KeptLemmas

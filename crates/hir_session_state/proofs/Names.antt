@@ -17,7 +17,8 @@ use Rattle.hir_collector_rules.specs.HirNameres.Inner.PartLaws.{among-only, amon
 use Rattle.hir_collector_rules.specs.HirDefMapRules.Inner.OverlayLaws.{exact_map}
 use Rattle.hir_collector_rules.proofs.HirDefMapRules.WellFormed.{complete, HasNoDanglingExtern-more, HasNoDanglingReference-more}
 use Rattle.hir_collector_rules.specs.HirDefMapRules.WellFormed.{AreWellFormed, HasNoDanglingExtern, Extends, IsWellFormed, HasNoDanglingReference}
-use Rattle.hir_collector_rules.specs.HirDefMapRules.References.{is_holder_for, is_well_formed, is_missing, is_there, lies_in, map_of_reference, any_reference_in, refers_to}
+use Rattle.hir_collector_rules.specs.HirDefMapRules.References.{is_holder_for, is_well_formed, is_missing, is_there, lies_in}
+use Rattle.hir_collector_rules.specs.HirDefMapRules.References.{map_of_reference, any_reference_in, refers_to}
 use Rattle.hir_collector_rules.specs.HirDefMapRules.References.{any_own_crate, any_reference, prelude_reference, test_crate, test_extern, test_of}
 use Rattle.hir_collector_rules.proofs.HirDefMapRules.Fails.{of_less}
 use Rattle.hir_collector_rules.proofs.HirDefMapRules.Referred.{module_less}

@@ -105,6 +105,7 @@ place-number t (keys.Text id) = tree-number t (macro_source id)
 place-number t (keys.Input krate ast) = source-number t ast.file_id ast.block
 place-number t (keys.Expansion id) = refl
 place-number t (keys.Map id) = refl
+place-number t (keys.Config krate) = refl
 
 module _ (t : TablesValue) (place : SourcePlaceValue) (number : SourceNumber) (numbered : IsNumberOf t place number) where
   pub is-number : (o : Option SourceNumber) → is_number number o ≡ true → o ≡ Some number
@@ -164,3 +165,4 @@ module _ (old new : TablesValue) (keeps : KeepsTables old new) where
   asked-kept (keys.Input krate ast) there = number-kept ast.file_id ast.block there
   asked-kept (keys.Expansion id) there = refl
   asked-kept (keys.Map id) there = refl
+  asked-kept (keys.Config krate) there = refl

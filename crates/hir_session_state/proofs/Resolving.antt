@@ -34,10 +34,12 @@ use Rattle.hir_session_state.specs.Crates.{CrateValue, beginning_in, begins_in_b
 use Rattle.hir_session_state.specs.Due.{Grows}
 use Rattle.hir_session_state.specs.Kept.{collected_of, held, placed_by}
 use Rattle.hir_session_state.specs.Standing.{block_map}
-use Rattle.hir_session_state.specs.SessionState.{SessionState, Resolution, workspace_of, beginning_of, finished_of, kept_of, read_under, standing_of, is_marked}
+use Rattle.hir_session_state.specs.SessionState.{SessionState, Resolution, dependencies_of, workspace_of, beginning_of}
+use Rattle.hir_session_state.specs.SessionState.{finished_of, kept_of, read_under, standing_of}
+use Rattle.hir_session_state.specs.SessionState.{is_marked}
 use Rattle.hir_session_state.specs.SessionState.{IsResolved, IsResolutionOf, IsPlace, IsSound}
 use Rattle.hir_session_state.specs.SessionState.IsPlace.{of_block, of_crate}
-use Rattle.hir_session_state.proofs.Depending.{any-found, depended, none_of}
+use Rattle.hir_session_state.proofs.Depending.{any-found, depended, direct_below, named_direct, none_of}
 use Rattle.hir_session_state.proofs.Following.{follows_unmarked}
 use Rattle.hir_session_state.proofs.Holders.{ends_held}
 use Rattle.hir_session_state.proofs.Holding.{crate_holders, holder_kept, in_own_crate, own_first, same_krate}
@@ -115,7 +117,7 @@ own_absent s k sound = go (read_under s (id_of k) [] (id_of k)) refl
     go None e = e
     go (Some p) e =
         let there = among_there (transitive_in s.crates k) (finished_of s) (id_of k) p e in
-        let lower : k < k = DependsOn-below sound.below ((depended sound k (record { 0 = k })).0 there.1) in
+        let lower : k < k = DependsOn-below (direct_below s) ((depended sound k (record { 0 = k })).0 there.1) in
         absurd (omega arith)
 
 -- ---- what the run of a crate, or of a block that these modules hold, reads
@@ -172,7 +174,11 @@ module _ (s : SessionState) (sound : IsSound s) (krate : Crate) (hs : List Modul
 
   pub stands_direct : list_any (λ (d : Dependency). test_crate (is_missing reads) d.krate) (own_dependencies s.crates krate.0) ≡ false
   stands_direct = none_of (λ (d : Dependency). test_crate (is_missing reads) d.krate) (own_dependencies s.crates krate.0)
-      (λ d among. not_missing d.krate ((depended sound krate.0 d.krate).1 (directly krate.0 d.krate (mapped (own_dependencies s.crates krate.0) d among))))
+      (λ d among. not_missing d.krate ((depended sound krate.0 d.krate).1 (directly krate.0 d.krate (named d among))))
+    where
+      named : (d : Dependency) → Contains (own_dependencies s.crates krate.0) d → Contains (dependencies_of s krate.0) d.krate
+      named d among =
+          subst (λ (cs : List Crate). Contains cs d.krate) (sym (named_direct sound krate.0)) (mapped (own_dependencies s.crates krate.0) d among)
 
 -- what a run gives is a resolution, where it reads only what names what is there
 resolution_by : (s : SessionState) (id : MapId) (from : Beginning) → beginning_of s id ≡ Some from → IsMeantAt s.tables (root_site from.tree)
@@ -228,7 +234,7 @@ pub resolution_of : (s : SessionState) (k : ℕ) → IsSound s → k < length s.
     → IsResolutionOf s (id_of k) (held r (holders_under (finished_of s) r.map.id r.map.holder))
 resolution_of s k sound within first r law resolved =
     let behind : (c : Crate) → has_crate (transitive_in s.crates k) c ≡ true → is_marked s (crate_map c) ≡ false =
-    λ c behind. first c.0 (DependsOn-below sound.below ((depended sound k c).0 behind)) in
+    λ c behind. first c.0 (DependsOn-below (direct_below s) ((depended sound k c).0 behind)) in
     let ended : Ends s.tables (workspace_of s) (finished_of s) (beginning_in s.crates k) r = resolved.ends (workspace_of s) (finished_of s) AgreeOn-refl in
     resolution_by s (id_of k) (beginning_in s.crates k) refl (root_means s sound k within) r law (crate_whole s k sound behind)
     (stands_on_whole s k sound behind) resolved ended.own refl
@@ -346,8 +352,8 @@ module _ (looks : LooksStand) (meaning : AskedKeysHaveMeaning) (answers : Answer
   -- what a run begins with stays
   pub grown_beginning : IsSound s → (id : MapId) (r : Resolution) (p : IsResolutionOf s id r) → beginning_of grown id ≡ Some p.from
   grown_beginning sound id r p =
-      beginning_stays s sound (λ j. is_marked s j ≡ false) (λ j d off among. sound.closed j d off among) T s.sources s.kept keeps (λ j off. refl)
-      (λ b place means off set. set) id p.from p.begun
+      beginning_stays s sound (λ j. is_marked s j ≡ false) (λ j d off among. sound.closed j d off among) s.crates T s.sources s.kept keeps (λ j off. refl)
+      (λ b place means off set. set) id (λ none. refl) p.from p.begun
       (λ h held. let k = holder_kept s id r p h (p.holder ∙ held) in unmarked s h.map k.found k.is)
 
   -- a resolution stays
@@ -360,7 +366,6 @@ module _ (looks : LooksStand) (meaning : AskedKeysHaveMeaning) (answers : Answer
       ends = λ v finished agree. answers s.tables T v finished p.from (collected_of r) keeps p.meant
           (p.resolved.ends v finished (record {
             crates = agree.crates;
-            config = agree.config;
             same = λ key among.
                 let has = meaning s.tables (workspace_of s) (finished_of s) p.from (collected_of r) p.meant
                 (p.resolved.ends (workspace_of s) (finished_of s) AgreeOn-refl) key among in
@@ -422,8 +427,8 @@ module _ (looks : LooksStand) (meaning : AskedKeysHaveMeaning) (answers : Answer
   found_of_block sound law krate b from q own off none meant r finished is resolved =
       let k = module_there s sound q.place.holder q.holder (at_module (standing_of s q.place.holder) q.holder q.held) in
       let begun : beginning_of grown (block_map krate b) ≡ Some from =
-      beginning_stays s sound (λ j. is_marked s j ≡ false) (λ j d at among. sound.closed j d at among) T s.sources s.kept keeps (λ j at. refl)
-      (λ c place means at set. set) (block_map krate b) from
+      beginning_stays s sound (λ j. is_marked s j ≡ false) (λ j d at among. sound.closed j d at among) s.crates T s.sources s.kept keeps (λ j at. refl)
+      (λ c place means at set. set) (block_map krate b) (λ none. refl) from
       (begun_block s krate b from q)
       (λ h held. let same : h ≡ q.holder = one_value (sym held ∙ holder_begun s krate b from q) in
       subst (λ (x : ModuleId). is_marked s x.map ≡ false) (sym same) (unmarked s q.holder.map k.found k.is)) in

@@ -34,7 +34,7 @@ use Rattle.hir_collector_rules.specs.HirMapParts.declared.origin.ModuleOrigin.Th
 use Rattle.hir_collector_rules.specs.Start.{Beginning, holder_of}
 use Rattle.hir_collector_rules.specs.HirTables.Tables.{TablesValue, KeepsTables, block_at, call_at}
 use Rattle.hir_session_state.specs.Blocks.{Blocks}
-use Rattle.hir_session_state.specs.Crates.{begins_in_block}
+use Rattle.hir_session_state.specs.Crates.{CrateValue, begins_in_block, beginning_in}
 use Rattle.hir_session_state.specs.Kept.{Resolution, Resolutions, kept_in}
 use Rattle.hir_session_state.specs.SourceTable.{SourceTable}
 use Rattle.hir_session_state.specs.SessionState.{SessionState, beginning_at, beginning_by, beginning_held, beginning_of, follows, is_marked, kept_of, module_of}
@@ -398,13 +398,14 @@ module _ (s : SessionState) (sound : IsSound s) (Stays : MapId → Type 0) (outw
         let later = back (before ++ e ∷ []) (next krate before st e) more m (one_more before st e is) leads stays in
         back_step krate before st e later.module_ (reached before st is) later.is later.stays
 
-  module _ (T : TablesValue) (F : SourceTable) (K : Resolutions) (keeps : KeepsTables s.tables T) (same : (id : MapId) → Stays id → kept_in K id ≡ kept_of s id)
+  module _ (C : List CrateValue) (T : TablesValue) (F : SourceTable) (K : Resolutions) (keeps : KeepsTables s.tables T)
+      (same : (id : MapId) → Stays id → kept_in K id ≡ kept_of s id)
       (set : (b : BlockId) (place : BlockPlace) → block_at s.tables b ≡ Some place → Stays (block_map place.holder.krate b) → is_set s.sources.blocks place
       ≡ true → is_set F.blocks place ≡ true)
     where
-      -- the session with other tables, sources and resolutions
+      -- the session with other crates, tables, sources and resolutions
       abbrev other : SessionState
-      other = record { crates = s.crates; tables = T; sources = F; kept = K }
+      other = record { crates = C; tables = T; sources = F; kept = K }
 
       -- one step
       step_stays : (krate : Crate) (before : List PlaceElement) (n : ModuleId) (e : PlaceElement) (m : ModuleId) → Stays n.map → next krate before (at n) e
@@ -477,13 +478,13 @@ module _ (s : SessionState) (sound : IsSound s) (Stays : MapId → Type 0) (outw
           go (Some r) f = of_module (module_at r.map m.index) f
 
       -- and what a run begins with whose holder lies in such a map
-      pub beginning_stays : (id : MapId) (from : Beginning) → beginning_of s id ≡ Some from → ((h : ModuleId) → holder_of from.start ≡ Some h → Stays h.map)
-          → beginning_of other id ≡ Some from
-      beginning_stays id from begun held = go id.block begun
+      pub beginning_stays : (id : MapId) → (id.block ≡ None → beginning_in C id.krate.0 ≡ beginning_in s.crates id.krate.0) → (from : Beginning)
+          → beginning_of s id ≡ Some from → ((h : ModuleId) → holder_of from.start ≡ Some h → Stays h.map) → beginning_of other id ≡ Some from
+      beginning_stays id alike from begun held = go id.block refl begun
         where
-          go : (o : Option BlockId) → beginning_by s id.krate o ≡ Some from → beginning_by other id.krate o ≡ Some from
-          go None e = e
-          go (Some b) e =
+          go : (o : Option BlockId) → id.block ≡ o → beginning_by s id.krate o ≡ Some from → beginning_by other id.krate o ≡ Some from
+          go None none e = ap (λ (b : Beginning). Some b) (alike none) ∙ e
+          go (Some b) of e =
               let p = block_begun s id.krate b from e in
               let stays : Stays p.holder.map = held p.holder (holder_begun s id.krate b from p) in
               begun_block other id.krate b from (record {

@@ -10,13 +10,14 @@ use Rattle.hir_collector_rules.specs.HirIds.declared.ids.ModuleId.{ModuleId}
 use Rattle.hir_collector_rules.specs.HirIds.declared.macro_kind.MacroId.TheVariants as macros
 use Rattle.hir_collector_rules.specs.HirPerNs.ModuleTree.{same_crate}
 use Rattle.hir_collector_rules.specs.HirTables.Tables.{TablesValue}
+use Rattle.hir_collector_rules.specs.HirNameres.WorldParts.{among}
 use Rattle.hir_collector_rules.specs.HirNameres.Inner.PartLaws.{among_agrees}
 use Rattle.hir_collector_rules.specs.HirDefMapRules.Inner.OverlayLaws.{exact_map}
 use Rattle.hir_collector_rules.specs.HirDefMapRules.WellFormed.{HasNoDanglingExtern, HasNoDanglingReference}
 use Rattle.hir_collector_rules.specs.HirDefMapRules.Overlay.{Maps, Placed, holders_of, holders_under, overlay, no_maps}
 use Rattle.hir_collector_rules.specs.HirDefMapRules.State.{crate_map}
 use Rattle.hir_collector_rules.specs.Causes.{HasCause}
-use Rattle.hir_collector_rules.specs.Causes.HasCause.{root_tree, of_holder, declared_enum, candidate, of_call, dependency}
+use Rattle.hir_collector_rules.specs.Causes.HasCause.{root_tree, of_holder, declared_enum, candidate, of_call, dependency, handed_in}
 use Rattle.hir_collector_rules.specs.Calls.{Expanding, call_key, expansion_readings, text_readings}
 use Rattle.hir_collector_rules.specs.Derivation.{Ends}
 use Rattle.hir_collector_rules.specs.Keys.{AgreeOn, look, map_key, of_map}
@@ -28,13 +29,14 @@ use Rattle.hir_collector_rules.specs.declared.source_database.Key.{Key}
 use Rattle.hir_collector_rules.specs.declared.macro_directive.MacroDirective.{MacroDirective}
 use Rattle.hir_collector_rules.specs.declared.source_database.Key.TheVariants as keys
 use Rattle.hir_collector_rules.specs.HirCrateGraph.CrateSet.{has_crate}
-use Rattle.hir_session_state.specs.Crates.{begins_in_block, id_of, transitive_in}
+use Rattle.hir_session_state.specs.Crates.{CrateValue, begins_in_block, id_of, transitive_in}
 use Rattle.hir_session_state.specs.SourceTable.{SourceTable}
 use Rattle.hir_session_state.specs.Kept.{Resolutions, collected_of, finished_by, kept_in, placed_by}
 use Rattle.hir_session_state.specs.SessionState.{SessionState, Resolution, workspace_of, beginning_by, beginning_of, finished_of, follows, read_under, kept_of}
 use Rattle.hir_session_state.specs.SessionState.{IsResolutionOf, IsSound}
 use Rattle.hir_collector_rules.specs.HirCrateGraph.Dependencies.{DependsOn}
 use Rattle.hir_collector_rules.specs.HirCrateGraph.Dependencies.DependsOn.{directly, through}
+use Rattle.hir_collector_rules.proofs.Asked.{held_is_map}
 use Rattle.hir_session_state.proofs.Depending.{any-found, depended, found-any}
 use Rattle.hir_session_state.proofs.Following.{followed, followed_crate, followed_holder}
 use Rattle.hir_session_state.proofs.Holding.{block_held, held_block, holder_kept, holders_hold, start_holders}
@@ -74,12 +76,11 @@ pub AgreeOn-trans : {tables : TablesValue} {keys : List Key} {u v w : Workspace}
     → AgreeOn tables keys u f w h
 AgreeOn-trans a b = record {
   crates = b.crates ∙ a.crates;
-  config = λ krate. b.config krate ∙ a.config krate;
   same = λ key c. b.same key c ∙ a.same key c;
 }
 
 pub AgreeOn-refl : {tables : TablesValue} {keys : List Key} {w : Workspace} {f : Maps} → AgreeOn tables keys w f w f
-AgreeOn-refl = record { crates = refl; config = λ krate. refl; same = λ key c. refl }
+AgreeOn-refl = record { crates = refl; same = λ key c. refl }
 
 -- no call asks for a map
 one_of_three : {A : Type 0} (a b c d : A) → Contains (a ∷ b ∷ c ∷ []) d → (a ≢ d) → (b ≢ d) → (c ≢ d) → ⊥
@@ -115,6 +116,36 @@ of_map_key (declared_enum home n listed is) = absurd (let wrong : ⊥ = cc in wr
 of_map_key (candidate at passed of) = let is = of.is in absurd (let wrong : ⊥ = cc in wrong)
 of_map_key {id = id} (of_call at passed of) = absurd (of_no_call at.core.map.id.krate of.call of.makro of.seen id of.among)
 of_map_key (dependency c among is) = inl (c, among, is)
+of_map_key (handed_in c among is) = absurd (let wrong : ⊥ = cc in wrong)
+
+-- nor for what a crate was handed in with
+of_no_config : (own : Crate) (d : MacroDirective) (makro : MacroId) (x : Expanding) (c : Crate)
+    → Contains (keys_read (text_readings makro x.text ++ expansion_readings own d x)) (keys.Config c) → ⊥
+of_no_config own d (macros.Macro2Id m) x c among =
+    one_of_four (keys.Text (macros.Macro2Id m)) (keys.Input own d.ast_id) (keys.Expansion x.entry) (keys.Tree (call_key own x.id)) (keys.Config c) among
+    (λ e. let wrong : ⊥ = cc in wrong) (λ e. let wrong : ⊥ = cc in wrong) (λ e. let wrong : ⊥ = cc in wrong) (λ e. let wrong : ⊥ = cc in wrong)
+of_no_config own d (macros.MacroRulesId m) x c among =
+    one_of_four (keys.Text (macros.MacroRulesId m)) (keys.Input own d.ast_id) (keys.Expansion x.entry) (keys.Tree (call_key own x.id)) (keys.Config c) among
+    (λ e. let wrong : ⊥ = cc in wrong) (λ e. let wrong : ⊥ = cc in wrong) (λ e. let wrong : ⊥ = cc in wrong) (λ e. let wrong : ⊥ = cc in wrong)
+of_no_config own d (macros.ProcMacroId m) x c among =
+    one_of_three (keys.Input own d.ast_id) (keys.Expansion x.entry) (keys.Tree (call_key own x.id)) (keys.Config c) among
+    (λ e. let wrong : ⊥ = cc in wrong) (λ e. let wrong : ⊥ = cc in wrong) (λ e. let wrong : ⊥ = cc in wrong)
+
+one_crate : {c d : Crate} → keys.Config c ≡ keys.Config d → c ≡ d
+one_crate e = cc
+
+-- what a crate was handed in with is asked for of the run's crate, and of those on which it depends
+pub of_config_key : {tables : TablesValue} {w : Workspace} {finished : Maps} {from : Beginning} {last : State} {c : Crate}
+    → HasCause tables w finished from last (keys.Config c) → Contains (krate_of from.start ∷ transitive_dependencies_in w (krate_of from.start)) c
+of_config_key (root_tree is) = absurd (let wrong : ⊥ = cc in wrong)
+of_config_key {finished = finished} {from = from} {c = c} (of_holder among) =
+    let map = held_is_map from.start (holders_by finished from.start) (keys.Config c) among in absurd (let is = map.1 in let wrong : ⊥ = cc in wrong)
+of_config_key (declared_enum home n listed is) = absurd (let wrong : ⊥ = cc in wrong)
+of_config_key (candidate at passed of) = let is = of.is in absurd (let wrong : ⊥ = cc in wrong)
+of_config_key {c = c} (of_call at passed of) = absurd (of_no_config at.core.map.id.krate of.call of.makro of.seen c of.among)
+of_config_key (dependency d among is) = absurd (let wrong : ⊥ = cc in wrong)
+of_config_key {w = w} {from = from} (handed_in d listed is) =
+    subst (λ (z : Crate). Contains (krate_of from.start ∷ transitive_dependencies_in w (krate_of from.start)) z) (sym (one_crate is)) listed
 
 same_map : {i j : MapId} → keys.Map i ≡ keys.Map j → i ≡ j
 same_map e = cc
@@ -135,13 +166,14 @@ of_holds hs j held =
 
 -- ---- a session that changes
 
-module _ (s : SessionState) (F : SourceTable) (K : Resolutions) where
-  -- the session with other sources and other resolutions
+module _ (s : SessionState) (C : List CrateValue) (F : SourceTable) (K : Resolutions) where
+  -- the session with other crates, other sources and other resolutions
   abbrev pub changed : SessionState
-  changed = record s { sources = F; kept = K }
+  changed = record s { crates = C; sources = F; kept = K }
 
-  -- what is kept of the crates and of the holders on which a place stands is as it was
+  -- a place stands on the crates on which it stood, and what is kept of these and of its holders is as it was
   pub record IsKeptBehind (id : MapId) (r : Resolution) : Type 0 where
+    pub transitive : transitive_in C id.krate.0 ≡ transitive_in s.crates id.krate.0
     pub crates : (c : Crate) → has_crate (transitive_in s.crates id.krate.0) c ≡ true → kept_in K (crate_map c) ≡ kept_of s (crate_map c)
     pub own : (b : BlockId) → id.block ≡ Some b → kept_in K (crate_map id.krate) ≡ kept_of s (crate_map id.krate)
     pub holders : (h : ModuleId) → Contains r.holders h → kept_in K h.map ≡ kept_of s h.map
@@ -151,7 +183,8 @@ module _ (s : SessionState) (F : SourceTable) (K : Resolutions) where
   finished_stays j same = ap (option_map placed_by) same
 
   pub read_stays : (id : MapId) (r : Resolution) → IsKeptBehind id r → read_under changed id r.holders ≡ read_under s id r.holders
-  read_stays id r kept = among_agrees (transitive_in s.crates id.krate.0) r.holders (finished_by K) (finished_of s)
+  read_stays id r kept = ap (λ (crates : List Crate). among crates r.holders (finished_by K)) kept.transitive
+      ∙ among_agrees (transitive_in s.crates id.krate.0) r.holders (finished_by K) (finished_of s)
       (λ j h. elim (of_some (transitive_in s.crates id.krate.0) r.holders j h) [
         | inl crate ↦
             let same : j ≡ crate_map j.krate = λ i. record { krate = j.krate; block = crate.0 i } in
@@ -229,7 +262,6 @@ module _ (s : SessionState) (F : SourceTable) (K : Resolutions) where
       let ended : Ends s.tables (workspace_of s) (finished_of s) p.from (collected_of r) = p.resolved.ends (workspace_of s) (finished_of s) AgreeOn-refl in
       record {
         crates = alike.crates;
-        config = alike.config;
         same = λ key h. key_stays (finished_of s) p.from ended.last key (ended.caused key h) (alike.same key h) (λ j is cause. by_cause j cause);
       }
     where
@@ -258,10 +290,18 @@ module _ (s : SessionState) (F : SourceTable) (K : Resolutions) where
     reaches = subst (λ (maps : Maps). HasNoDanglingExtern (overlay maps r.map) r.local) (sym (read_stays id r kept)) p.reaches;
   }
 
+-- the map that is kept of a place has the crates on which its own stands
+pub kept_transitive : (s : SessionState) (id : MapId) (r : Resolution) → IsResolutionOf s id r → r.map.crate_data.dependencies
+    ≡ transitive_in s.crates id.krate.0
+kept_transitive s id r p =
+    let ended : Ends s.tables (workspace_of s) (finished_of s) p.from (collected_of r) = p.resolved.ends (workspace_of s) (finished_of s) AgreeOn-refl in
+    ended.dependencies_are ∙ ap (λ (x : MapId). transitive_in s.crates x.krate.0) (sym ended.own ∙ p.own)
+
 -- ---- where what a place stands on is as it was
 
-module _ (s : SessionState) (sound : IsSound s) (F : SourceTable) (K : Resolutions) (Stays : MapId → Type 0)
-    (outwards : (id d : MapId) → Stays id → Contains (follows s id) d → Stays d) (same : (id : MapId) → Stays id → kept_in K id ≡ kept_of s id) where
+module _ (s : SessionState) (sound : IsSound s) (C : List CrateValue) (F : SourceTable) (K : Resolutions) (Stays : MapId → Type 0)
+    (outwards : (id d : MapId) → Stays id → Contains (follows s id) d → Stays d) (same : (id : MapId) → Stays id → kept_in K id ≡ kept_of s id)
+    (alike : (id : MapId) → Stays id → transitive_in C id.krate.0 ≡ transitive_in s.crates id.krate.0) where
   -- so is what is kept of the crates on which a crate stands
   pub crates_stay : (krate : Crate) → Stays (crate_map krate) → (c : Crate) → has_crate (transitive_in s.crates krate.0) c ≡ true → Stays (crate_map c)
   crates_stay krate stays c behind =
@@ -270,8 +310,9 @@ module _ (s : SessionState) (sound : IsSound s) (F : SourceTable) (K : Resolutio
 
   -- a place whose crate and whose holder stay stands on what stays
   pub behind_stays : (id : MapId) (r : Resolution) → IsResolutionOf s id r → Stays (crate_map id.krate) → ((h : ModuleId) → r.map.holder ≡ Some h → Stays h.map)
-      → IsKeptBehind s F K id r
+      → IsKeptBehind s C F K id r
   behind_stays id r p own held = record {
+    transitive = alike (crate_map id.krate) own;
     crates = λ c behind. same (crate_map c) (crates_stay id.krate own c behind);
     own = λ b of. same (crate_map id.krate) own;
     holders = λ h among. same h.map (all r.map.holder refl h among);
@@ -290,7 +331,7 @@ module _ (s : SessionState) (sound : IsSound s) (F : SourceTable) (K : Resolutio
           one_of g stays f kept (suc n, within, eq) = holders_hold s sound {P = Stays} outwards f.holders g.map f kept refl stays h (n, omega arith, eq)
 
   -- what is kept of a place that stays stands on what stays
-  pub kept_behind : (id : MapId) (r : Resolution) → kept_of s id ≡ Some r → Stays id → IsKeptBehind s F K id r
+  pub kept_behind : (id : MapId) (r : Resolution) → kept_of s id ≡ Some r → Stays id → IsKeptBehind s C F K id r
   kept_behind id r is stays =
       let p = kept_gives s sound id r is in
       behind_stays id r p (own id.block refl) (λ h held. let of = held_block s id r p h held

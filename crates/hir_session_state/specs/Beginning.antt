@@ -1,7 +1,8 @@
 -- How does a session begin?
 use Rattle.std.specs.Prelude.{◌≡◌, ℕ, ◌<◌, List, [], ◌∷◌, ◌++◌, length, map, None, Some}
 use Rattle.hir_collector_rules.specs.HirBase.CfgOptions.{SetAlike}
-use Rattle.hir_messages.specs.CommandValue.{CrateInputValue}
+use Rattle.hir_messages.specs.CommandValue.{CrateInputValue, data_of_input}
+use Rattle.hir_messages.specs.Edits.{CrateDataValue}
 use Rattle.hir_messages.specs.declared.command.Dependency.{Dependency as HandedIn}
 use Rattle.hir_collector_rules.specs.declared.source_database.Dependency.{Dependency}
 use Rattle.hir_collector_rules.specs.Workspace.{ConfigValue}
@@ -14,18 +15,25 @@ use Rattle.hir_session_state.specs.SessionState.{SessionState, kept_of}
 abbrev pub dependency_of : HandedIn → Dependency
 dependency_of d = record { krate = d.krate; name = d.name; is_prelude = d.prelude }
 
--- it is what the crate was handed in with, and its options are a set
-pub record IsConfigOf (input : CrateInputValue) (config : ConfigValue) : Type 0 where
-  pub edition : config.edition ≡ input.edition
-  pub attributes : config.attributes ≡ input.attributes
-  pub dependencies : config.dependencies ≡ map dependency_of input.deps
-  pub options : SetAlike config.options input.options
+-- it is what a crate is handed in with, and its options are a set
+pub record IsConfigOf (given : CrateDataValue) (config : ConfigValue) : Type 0 where
+  pub edition : config.edition ≡ given.edition
+  pub attributes : config.attributes ≡ given.attributes
+  pub dependencies : config.dependencies ≡ map dependency_of given.deps
+  pub options : SetAlike config.options given.options
+
+-- two crates are handed in alike: their options are the same set
+pub record IsSameConfig (given config : ConfigValue) : Type 0 where
+  pub edition : config.edition ≡ given.edition
+  pub attributes : config.attributes ≡ given.attributes
+  pub dependencies : config.dependencies ≡ given.dependencies
+  pub options : SetAlike config.options given.options
 
 -- the crate is as it was handed in
 pub record IsMade (input : CrateInputValue) (c : CrateValue) : Type 0 where
   pub root : c.own.root ≡ input.root
   pub is_proc_macro : c.own.is_proc_macro ≡ input.proc_macro
-  pub config : IsConfigOf input c.config
+  pub config : IsConfigOf (data_of_input input) c.config
 
 -- the crates are as they were handed in
 abbrev pub AreMade : List CrateInputValue → List CrateValue → Type 0

@@ -1,33 +1,54 @@
 -- What do the calls of a session change?
-use Rattle.std.specs.Prelude.{◌≡◌, true, false, List}
+use Rattle.std.specs.Prelude.{◌≡◌, ◌⊎◌, true, false, List}
 use Rattle.hir_collector_rules.specs.HirBase.Place.{PlaceValue}
 use Rattle.hir_collector_rules.specs.HirIds.declared.ids.MapId.{MapId}
-use Rattle.hir_messages.specs.Edits.{EditValue}
-use Rattle.hir_session_state.specs.SourceEdits.{edit_of, edited}
+use Rattle.hir_collector_rules.specs.HirIds.declared.ids.Crate.{Crate}
+use Rattle.hir_collector_rules.specs.HirDefMapRules.State.{crate_map}
+use Rattle.hir_collector_rules.specs.Workspace.{ConfigValue}
+use Rattle.hir_messages.specs.Edits.{CrateDataValue, EditValue}
+use Rattle.hir_session_state.specs.Beginning.{IsConfigOf}
+use Rattle.hir_session_state.specs.Crates.{crate_in, with_config}
+use Rattle.hir_session_state.specs.Inputs.{InputsValue, workspace_by}
+use Rattle.hir_session_state.specs.SourceEdits.{InputEdit, edit_of, edited, source_edit, crate_edit}
 use Rattle.hir_session_state.specs.SourceTable.{SourceTable}
-use Rattle.hir_session_state.specs.SessionState.{SessionState, workspace_of, kept_of, is_marked, IsSound}
+use Rattle.hir_session_state.specs.SessionState.{SessionState, kept_of, is_marked, IsSound}
 use Rattle.hir_session_state.specs.Marks.{marks_after}
 use Rattle.hir_session_state.specs.Due.{AreResolved, IsNext}
 use Rattle.hir_collector_rules.specs.HirTables.Tables.{KeepsTables}
 
--- the session with other sources
-abbrev pub with_sources : SessionState → SourceTable → SessionState
-with_sources s sources = record s { sources = sources }
-
--- the sources became these, and exactly what that touches is marked
-pub record Becomes (old : SessionState) (sources : SourceTable) (new : SessionState) : Type 0 where
-  pub crates : new.crates ≡ old.crates
+-- crates and sources became these, and exactly what that touches is marked
+pub record IsHandedIn (old : SessionState) (inputs : InputsValue) (new : SessionState) : Type 0 where
+  pub crates : new.crates ≡ inputs.crates
   pub tables : new.tables ≡ old.tables
-  pub sources_are : new.sources ≡ sources
-  pub only : (id : MapId) → is_marked new id ≡ true → marks_after old (workspace_of (with_sources old sources)) id
-  pub all : (id : MapId) → marks_after old (workspace_of (with_sources old sources)) id → is_marked new id ≡ true
+  pub sources_are : new.sources ≡ inputs.sources
+  pub only : (id : MapId) → is_marked new id ≡ true → marks_after old (workspace_by inputs) id
+  pub all : (id : MapId) → marks_after old (workspace_by inputs) id → is_marked new id ≡ true
   pub kept : (id : MapId) → is_marked new id ≡ false → kept_of new id ≡ kept_of old id
   -- what isn't marked is what the import rules could have given just now
   pub sound : IsSound new
 
+-- the sources became these, and exactly what that touches is marked
+abbrev pub Becomes : SessionState → SourceTable → SessionState → Type 0
+Becomes old sources new = IsHandedIn old (record { crates = old.crates; sources = sources }) new
+
+-- a crate is handed in with other data, and exactly what that touches is marked
+pub record SetsCrate (old : SessionState) (krate : Crate) (given : CrateDataValue) (new : SessionState) : Type 0 where
+  pub config : ConfigValue
+  pub is : IsConfigOf given config
+  -- where it was handed in so before, that stays
+  pub same : IsConfigOf given (crate_in old.crates krate.0).config → config ≡ (crate_in old.crates krate.0).config
+  pub becomes : IsHandedIn old (record { crates = with_config old.crates krate.0 config; sources = old.sources }) new
+  -- where it wasn't, the crate is marked
+  pub marks : (config ≡ (crate_in old.crates krate.0).config) ⊎ (is_marked new (crate_map krate) ≡ true)
+
+-- what the edit hands in was handed in
+abbrev pub AppliesTo : SessionState → InputEdit → SessionState → Type 0
+AppliesTo old (source_edit edit) new = Becomes old (edited old.sources edit) new
+AppliesTo old (crate_edit krate given) new = SetsCrate old krate given new
+
 -- the edit was accepted
 abbrev pub Applies : SessionState → EditValue → SessionState → Type 0
-Applies old edit new = Becomes old (edited old.sources (edit_of edit)) new
+Applies old edit new = AppliesTo old (edit_of edit) new
 
 -- the places of the list were resolved, each when it was the next that was due, and nothing else was
 pub record Resolves (old : SessionState) (done : List PlaceValue) (new : SessionState) : Type 0 where

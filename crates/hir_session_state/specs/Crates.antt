@@ -1,5 +1,5 @@
 -- What is a crate of a session?
-use Rattle.std.specs.Prelude.{◌≡◌, ℕ, false, List, [], length, map, Option, None, Some, option_map, slice_get, slice_index_or}
+use Rattle.std.specs.Prelude.{◌≡◌, ℕ, false, List, [], length, map, Option, None, Some, option_map, slice_get, slice_index_or, slice_set}
 use Rattle.hir_collector_rules.specs.HirItemTree.Attributes.{no_attributes}
 use Rattle.hir_collector_rules.specs.HirBase.declared.tree_id.TreeId.{TreeId}
 use Rattle.hir_collector_rules.specs.HirIds.declared.ast_id.BlockId.{BlockId}
@@ -14,7 +14,7 @@ use Rattle.hir_collector_rules.specs.HirIds.declared.ast_id.HirFileId.TheVariant
 use Rattle.hir_collector_rules.specs.HirIds.declared.edition.Edition.TheVariants.{Edition2024}
 use Rattle.hir_collector_rules.specs.HirCrateGraph.Dependencies.{AreTransitive, transitive_dependencies}
 use Rattle.hir_collector_rules.specs.HirDefMapRules.State.{crate_map}
-use Rattle.hir_collector_rules.specs.Workspace.{ConfigValue, direct_by}
+use Rattle.hir_collector_rules.specs.Workspace.{ConfigValue, direct_by, named_by}
 use Rattle.hir_collector_rules.specs.Start.{Beginning, beginning}
 use Rattle.hir_collector_rules.specs.declared.source_database.CrateRoot.{CrateRoot}
 use Rattle.hir_collector_rules.specs.declared.start.Start.TheVariants as starts
@@ -41,6 +41,10 @@ crate_in crates k = slice_index_or crates k no_crate
 abbrev pub config_in : List CrateValue → Crate → Option ConfigValue
 config_in crates krate = option_map (λ c. c.config) (slice_get crates krate.0)
 
+-- the crates that one names as dependencies
+abbrev pub named_in : List CrateValue → ℕ → List Crate
+named_in crates k = named_by (config_in crates) k
+
 -- the crates on which one depends directly
 abbrev pub dependencies_in : List CrateValue → ℕ → List Crate
 dependencies_in crates k = direct_by (config_in crates) k
@@ -61,6 +65,10 @@ id_of k = crate_map (record { 0 = k })
 -- the maps of the crates on which a crate directly depends
 abbrev pub dependency_maps : List CrateValue → Crate → List MapId
 dependency_maps crates krate = map crate_map (dependencies_in crates krate.0)
+
+-- the crates where the one of this number was handed in with this
+abbrev pub with_config : List CrateValue → ℕ → ConfigValue → List CrateValue
+with_config crates k config = slice_set crates k (record (crate_in crates k) { config = config })
 
 -- the options that are set in it
 abbrev pub options_in : List CrateValue → ℕ → List CfgAtom

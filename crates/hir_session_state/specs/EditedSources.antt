@@ -8,14 +8,15 @@ use Rattle.hir_collector_rules.specs.HirDefMapRules.Overlay.{no_maps}
 use Rattle.hir_collector_rules.specs.Workspace.{Workspace, seen_of}
 use Rattle.hir_collector_rules.specs.Keys.{AgreeOn, Look, input_of, look, of_input, of_map, of_text, of_tree, of_variants, text_of}
 use Rattle.hir_collector_rules.specs.declared.source_database.Key.{Key}
-use Rattle.hir_collector_rules.specs.declared.source_database.Key.TheVariants.{Tree, Variants, Text, Input, Expansion, Map}
+use Rattle.hir_collector_rules.specs.declared.source_database.Key.TheVariants.{Tree, Variants, Text, Input, Expansion, Map, Config}
 use Rattle.hir_collector_rules.specs.HirItemTree.SourceTree.{SourceTreeValue, variants_of}
 use Rattle.hir_collector_rules.specs.HirItemTree.SyntaxIds.{node_id}
 use Rattle.hir_session_state.specs.Askers.{KeyAskers, has_asked_in}
 use Rattle.hir_session_state.specs.Kept.{Resolutions, kept_in}
-use Rattle.hir_session_state.specs.SessionState.{Resolution}
+use Rattle.hir_session_state.specs.SessionState.{Resolution, SessionState, follows, kept_of, workspace_of}
+use Rattle.hir_session_state.specs.Spread.{Spread}
 use Rattle.hir_collector_rules.specs.HirTables.Tables.{TablesValue}
-use Rattle.hir_session_state.specs.Marks.{IsAltered}
+use Rattle.hir_session_state.specs.Marks.{IsAltered, IsTouched}
 
 -- the text of a macro that a source defines
 abbrev pub text_in : SourceTreeValue → MacroId → Option (List ℕ)
@@ -31,6 +32,7 @@ seen_at t (Text id) = of_text (text_in t id)
 seen_at t (Input krate ast) = of_input (input_of t (node_id ast.kind ast.id))
 seen_at t (Expansion id) = of_map None
 seen_at t (Map id) = of_map None
+seen_at t (Config krate) = of_map None
 
 -- one of the keys is altered
 pub record HasAltered (tables : TablesValue) (v w : Workspace) (keys : List Key) : Type 0 where
@@ -64,3 +66,9 @@ pub record AreJudged (tables : TablesValue) (v w : Workspace) (askers : Option K
 pub record AreHit (tables : TablesValue) (v w : Workspace) (kept : Resolutions) (hits : List MapId) : Type 0 where
   pub asked : (id : MapId) → Contains hits id → IsAsked tables v w (kept_in kept id)
   pub missed : (id : MapId) (r : Resolution) → kept_in kept id ≡ Some r → Contains hits id ⊎ AgreeOn tables r.asked v no_maps w no_maps
+
+-- the places are touched where the workspace becomes another, and each that is touched depends on one of them
+pub record AreReached (s : SessionState) (w : Workspace) (hits : List MapId) : Type 0 where
+  pub touched : (id : MapId) → Contains hits id → IsTouched s w id
+  pub missed : (id : MapId) (r : Resolution) → kept_of s id ≡ Some r → (IsTouched s w id × Spread (follows s) (Contains hits) id)
+      ⊎ AgreeOn s.tables r.asked (workspace_of s) no_maps w no_maps

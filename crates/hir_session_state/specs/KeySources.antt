@@ -8,7 +8,7 @@ use Rattle.hir_collector_rules.specs.HirTables.SourcePlaces.{SourcePlaceValue, e
 use Rattle.hir_collector_rules.specs.HirTables.Tables.{TablesValue, entry_at, source_of}
 use Rattle.hir_collector_rules.specs.Keys.{enum_key, macro_key, node_key}
 use Rattle.hir_collector_rules.specs.declared.source_database.Key.{Key}
-use Rattle.hir_collector_rules.specs.declared.source_database.Key.TheVariants.{Tree, Variants, Text, Input, Expansion, Map}
+use Rattle.hir_collector_rules.specs.declared.source_database.Key.TheVariants.{Tree, Variants, Text, Input, Expansion, Map, Config}
 
 -- the tree that writes a macro which is no procedural one
 abbrev pub macro_source : MacroId → Option TreeKey
@@ -24,6 +24,7 @@ key_tree (Text id) = macro_source id
 key_tree (Input krate ast) = Some (node_key krate ast)
 key_tree (Expansion id) = None
 key_tree (Map id) = None
+key_tree (Config krate) = None
 
 -- where the source of a tree stands
 abbrev pub tree_place : TablesValue → Option TreeKey → Option SourcePlaceValue
@@ -37,3 +38,4 @@ key_place tables (Text id) = tree_place tables (macro_source id)
 key_place tables (Input krate ast) = tree_place tables (Some (node_key krate ast))
 key_place tables (Expansion id) = option_map expansion (entry_at tables id)
 key_place tables (Map id) = None
+key_place tables (Config krate) = None

@@ -12,6 +12,7 @@ use Rattle.hir_collector_rules.specs.HirBase.declared.locations.LocationsError.T
 use Rattle.hir_collector_rules.specs.HirBase.declared.limit.Limit.TheVariants as limit
 use Rattle.hir_collector_rules.specs.HirBase.declared.place.PlaceElement.TheVariants as element
 use Rattle.hir_collector_rules.specs.HirTables.SourcePlaces.{ExpansionValue}
+use Rattle.hir_collector_rules.specs.HirItemTree.Attributes.{Attributes}
 use Rattle.hir_collector_rules.specs.HirItemTree.Source.{SourceValue}
 use Rattle.hir_collector_rules.specs.HirItemTree.Check.{verdict_of_check}
 use Rattle.hir_collector_rules.specs.HirItemTree.Limits.{are_deep, have_long_attribute}
@@ -19,7 +20,7 @@ use Rattle.hir_collector_rules.specs.HirItemTree.declared.check.CheckError.{Chec
 use Rattle.hir_collector_rules.specs.HirItemTree.declared.check.CheckError.TheVariants as check_error
 use Rattle.hir_messages.specs.CommandValue.{CrateInputValue}
 use Rattle.hir_messages.specs.declared.command.Dependency.{Dependency}
-use Rattle.hir_messages.specs.Edits.{EditValue, set_file, remove_file, set_block, remove_block, set_expansion, remove_expansion}
+use Rattle.hir_messages.specs.Edits.{CrateDataValue, EditValue, set_file, remove_file, set_block, remove_block, set_expansion, remove_expansion, set_crate}
 use Rattle.hir_session_state.specs.declared.error.NewSessionError.{NewSessionError}
 use Rattle.hir_session_state.specs.declared.error.NewSessionError.TheVariants as new_error
 use Rattle.hir_session_state.specs.declared.error.EditError.{EditError}
@@ -85,9 +86,13 @@ first_out_of_order k (c ∷ cs) =
 abbrev pub is_too_long : CrateInputValue → Bool
 is_too_long c = have_long_attribute c.attributes
 
--- whether conditions in them nest too deep, where their paths have no more segments than they may
+-- whether conditions in some attributes nest too deep, where their paths have no more segments than they may
+abbrev pub nest_too_deep : Attributes → Bool
+nest_too_deep attributes = not (have_long_attribute attributes) && are_deep attributes
+
+-- so it is with those that are handed in for a crate
 abbrev pub is_too_deep : CrateInputValue → Bool
-is_too_deep c = not (have_long_attribute c.attributes) && are_deep c.attributes
+is_too_deep c = nest_too_deep c.attributes
 
 -- that the crates are within the limits, or the first limit that is passed
 abbrev pub verdict_of_limits : List CrateInputValue → Result (Unit {0}) NewSessionError
@@ -134,6 +139,19 @@ verdict_of_expansion count key source =
 abbrev pub verdict_of_removal : ℕ → ExpansionValue → Result (Unit {0}) EditError
 verdict_of_removal count key = if are_known count key then Ok tt else Err edit_error.UnknownCrate
 
+-- what other data of the crate of this number are refused for, where the crate is there: attributes above the limits, and then a dependency that doesn't come
+-- before it
+abbrev pub verdict_of_data : Crate → Attributes → List Dependency → Result (Unit {0}) EditError
+verdict_of_data krate attributes deps =
+    if have_long_attribute attributes then Err (edit_error.TooLarge limit.Path) else
+    (if nest_too_deep attributes then Err (edit_error.TooLarge limit.Cfg) else
+    (if has_late krate.0 (dependency_crates deps) then Err (edit_error.DependencyOrder krate) else Ok tt))
+
+-- the same of a crate, where there are so many
+abbrev pub verdict_of_crate : ℕ → Crate → CrateDataValue → Result (Unit {0}) EditError
+verdict_of_crate count krate given =
+    if nat_lt krate.0 count then verdict_of_data krate given.attributes given.deps else Err edit_error.UnknownCrate
+
 -- whether an id has an index above those that ids may have
 abbrev pub has_high_index : PlaceElement → Bool
 has_high_index (element.Module name) = false
@@ -159,6 +177,7 @@ abbrev pub passes_limit : Result (Unit {0}) EditError → Bool
 passes_limit (Ok u) = false
 passes_limit (Err edit_error.UnknownCrate) = false
 passes_limit (Err (edit_error.TooLarge limit)) = true
+passes_limit (Err (edit_error.DependencyOrder krate)) = false
 passes_limit (Err (edit_error.DuplicateId kind id)) = false
 passes_limit (Err edit_error.Memory) = false
 
@@ -167,6 +186,7 @@ abbrev pub passes_before_index : Result (Unit {0}) EditError → Bool
 passes_before_index (Ok u) = false
 passes_before_index (Err edit_error.UnknownCrate) = false
 passes_before_index (Err (edit_error.TooLarge limit)) = is_before_index limit
+passes_before_index (Err (edit_error.DependencyOrder krate)) = false
 passes_before_index (Err (edit_error.DuplicateId kind id)) = false
 passes_before_index (Err edit_error.Memory) = false
 
@@ -195,3 +215,4 @@ verdict_of_apply count (set_block place source) = verdict_of_block count place (
 verdict_of_apply count (remove_block place) = verdict_of_block count place (Ok tt)
 verdict_of_apply count (set_expansion key entry) = verdict_of_expansion count key entry.source
 verdict_of_apply count (remove_expansion key) = verdict_of_removal count key
+verdict_of_apply count (set_crate krate given) = verdict_of_crate count krate given

@@ -17,7 +17,7 @@ use Rattle.hir_collector_rules.specs.Calls.{AreCallsPlaced, IsMeantAt}
 use Rattle.hir_collector_rules.specs.Keys.{AgreeOn}
 use Rattle.hir_collector_rules.specs.Derivation.{CollectedValue, Ends}
 use Rattle.hir_collector_rules.specs.Start.{Beginning, holder_of, root_site}
-use Rattle.hir_session_state.specs.Crates.{CrateValue, begins_in_block, beginning_in, transitive_in, crate_in, dependencies_in, dependency_maps}
+use Rattle.hir_session_state.specs.Crates.{CrateValue, begins_in_block, beginning_in, transitive_in, crate_in, dependencies_in, dependency_maps, named_in}
 use Rattle.hir_session_state.specs.Inputs.{InputsValue}
 pub use Rattle.hir_session_state.specs.Kept.{Resolution}
 use Rattle.hir_session_state.specs.Kept.{Resolutions, collected_of, finished_by, kept_in}
@@ -156,7 +156,7 @@ max_crates = 10000
 -- what is true of each session
 pub record IsSound (s : SessionState) : Type 0 where
   pub few : length s.crates ≤ max_crates
-  pub below : (k : ℕ) (d : Crate) → Contains (dependencies_of s k) d → d.0 < k
+  pub below : (k : ℕ) (d : Crate) → Contains (named_in s.crates k) d → d.0 < k
   pub placed : (id : MapId) → is_marked s id ≡ false → IsPlace s id
   pub closed : (id d : MapId) → is_marked s id ≡ false → Contains (follows s id) d → is_marked s d ≡ false
   pub current : (id : MapId) → is_marked s id ≡ false → IsCurrent s id

@@ -4,7 +4,8 @@ use Rattle.std.specs.Coded.{Coded, codes}
 use Rattle.std.proofs.Common.{refl, ap, ap₂, arith}
 use base.Stored.{Gv, gnil, gnum, gcons}
 use Rattle.hir_collector_rules.specs.HirItemTree.Attributes.{Attribute, meta, cfg, cfg_attr, Attributes, no_attributes, attribute}
-use Rattle.hir_collector_rules.specs.HirItemTree.Source.{NodeHead, MacroValue, VariantValue, Plain, Holder, Item, plain, holder, Items, no_items, item, SourceValue}
+use Rattle.hir_collector_rules.specs.HirItemTree.Source.{NodeHead, MacroValue, VariantValue, Plain, Holder, Item}
+use Rattle.hir_collector_rules.specs.HirItemTree.Source.{plain, holder, Items, no_items, item, SourceValue}
 use Rattle.hir_collector_rules.specs.HirItemTree.ValueCodes.{number, halves, coded_name, coded_id, coded_path, coded_visibility, coded_shape, coded_alias}
 use Rattle.hir_collector_rules.specs.HirItemTree.UseTreeCodes.{coded_use_tree}
 use Rattle.hir_collector_rules.specs.HirItemTree.CollectedCodes.{coded_cfg, coded_meta}

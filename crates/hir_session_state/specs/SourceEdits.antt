@@ -2,7 +2,9 @@
 use Rattle.std.specs.Prelude.{◌≡◌, ℕ, ⊤, List, Option, Some, None}
 use Rattle.hir_collector_rules.specs.HirItemTree.Source.{SourceValue}
 use Rattle.hir_collector_rules.specs.HirTables.SourcePlaces.{ExpansionValue, SourcePlaceValue, file, block, expansion}
-use Rattle.hir_messages.specs.Edits.{EditValue, EntryValue, set_file, remove_file, set_block, remove_block, set_expansion, remove_expansion}
+use Rattle.hir_messages.specs.Edits.{CrateDataValue, EditValue, EntryValue, set_file, remove_file, set_block, remove_block, set_expansion, remove_expansion}
+use Rattle.hir_messages.specs.Edits.{set_crate}
+use Rattle.hir_collector_rules.specs.HirIds.declared.ids.Crate.{Crate}
 use Rattle.hir_collector_rules.specs.HirBase.declared.place.BlockPlace.{BlockPlace}
 use Rattle.hir_session_state.specs.Blocks.{blocks_with, place_of_block}
 use Rattle.hir_session_state.specs.Files.{edited_at}
@@ -15,14 +17,20 @@ pub data SourceEditValue : Type 0 where
   of_block : BlockPlace → Option SourceValue → SourceEditValue
   of_expansion : ExpansionValue → Option EntryValue → SourceEditValue
 
+-- a source, or a crate and what it is handed in with
+pub data InputEdit : Type 0 where
+  source_edit : SourceEditValue → InputEdit
+  crate_edit : Crate → CrateDataValue → InputEdit
+
 -- what an edit is, as it is handed in
-abbrev pub edit_of : EditValue → SourceEditValue
-edit_of (set_file path source) = of_file path (Some source)
-edit_of (remove_file path) = of_file path None
-edit_of (set_block place source) = of_block place (Some source)
-edit_of (remove_block place) = of_block place None
-edit_of (set_expansion key entry) = of_expansion key (Some entry)
-edit_of (remove_expansion key) = of_expansion key None
+abbrev pub edit_of : EditValue → InputEdit
+edit_of (set_file path source) = source_edit (of_file path (Some source))
+edit_of (remove_file path) = source_edit (of_file path None)
+edit_of (set_block place source) = source_edit (of_block place (Some source))
+edit_of (remove_block place) = source_edit (of_block place None)
+edit_of (set_expansion key entry) = source_edit (of_expansion key (Some entry))
+edit_of (remove_expansion key) = source_edit (of_expansion key None)
+edit_of (set_crate krate given) = crate_edit krate given
 
 -- the place of what it edits
 abbrev pub place_of : SourceEditValue → SourcePlaceValue

@@ -44,6 +44,7 @@ asked_number t (keys.Text id) = number_of t (macro_source id)
 asked_number t (keys.Input krate ast) = number_of t (Some (node_key krate ast))
 asked_number t (keys.Expansion id) = Some (Expansion id)
 asked_number t (keys.Map id) = None
+asked_number t (keys.Config krate) = None
 
 -- whether the number is this one
 abbrev pub is_number : SourceNumber → Option SourceNumber → Bool

@@ -28,6 +28,9 @@ pub enum EditError {
     /// The first limit that is passed.
     #[error("{} is above the limit", measured(*.0))]
     TooLarge(Limit),
+    /// A dependency of this crate doesn't come before it.
+    #[error("crate {} depends on one that doesn't come before it", .0.0)]
+    DependencyOrder(Crate),
     /// Two nodes of one kind have this id.
     #[error("two nodes of kind {kind:?} have the id [{}, {}]", .id.hash, .id.index)]
     DuplicateId { kind: AstKind, id: SyntaxId },

@@ -98,7 +98,7 @@ pub fn key_tree(key: Key) -> Option<TreeKey>
         )),
         Key::Text(id) => macro_source(id),
         Key::Input(krate, ast) => Some(tree_under(krate, ast.file_id, ast.block)),
-        Key::Expansion(_) | Key::Map(_) => None,
+        Key::Expansion(_) | Key::Map(_) | Key::Config(_) => None,
     }
 }
 

@@ -91,8 +91,13 @@ fn passes_before_index(verdict: Result<(), EditError>) -> bool
 {
     match verdict {
         Err(EditError::TooLarge(limit)) => is_before_index(limit),
-        Err(EditError::UnknownCrate | EditError::DuplicateId { .. } | EditError::Memory) | Ok(()) =>
-            false,
+        Err(
+            EditError::UnknownCrate
+            | EditError::DependencyOrder(_)
+            | EditError::DuplicateId { .. }
+            | EditError::Memory,
+        )
+        | Ok(()) => false,
     }
 }
 
@@ -101,8 +106,13 @@ fn passes_limit(verdict: Result<(), EditError>) -> bool
 {
     match verdict {
         Err(EditError::TooLarge(_)) => true,
-        Err(EditError::UnknownCrate | EditError::DuplicateId { .. } | EditError::Memory) | Ok(()) =>
-            false,
+        Err(
+            EditError::UnknownCrate
+            | EditError::DependencyOrder(_)
+            | EditError::DuplicateId { .. }
+            | EditError::Memory,
+        )
+        | Ok(()) => false,
     }
 }
 

@@ -39,7 +39,10 @@ fn errors_of_edits_have_texts(rt: HostRuntime) -> Result<(), Fail> {
     says(&rt, rt.alloc(), &twice, repeated)?;
     let modules = EditError::TooLarge(Limit::Modules);
     let deep = "the depth of modules is above the limit";
-    says(&rt, rt.alloc(), &modules, deep)
+    says(&rt, rt.alloc(), &modules, deep)?;
+    let order = EditError::DependencyOrder(Crate(3));
+    let late = "crate 3 depends on one that doesn't come before it";
+    says(&rt, rt.alloc(), &order, late)
 }
 
 #[test]

@@ -14,10 +14,10 @@ use Rattle.hir_wire.specs.declared.read.line.Verb.{Verb}
 use Rattle.hir_wire.specs.declared.read.line.Verb.TheVariants as verb
 use Rattle.hir_wire.specs.declared.read_error.ReadError.TheVariants.{Json, Command}
 use Rattle.hir_wire.specs.Attributes.{attributes_of}
-use Rattle.hir_messages.specs.CommandValue.{CommandValue, CrateInputValue, crate_modules, crates, diagnostics, dump, edit, file_modules, impl_items, names, refresh}
-use Rattle.hir_messages.specs.CommandValue.{resolve, status, trait_items, tree}
+use Rattle.hir_messages.specs.CommandValue.{CommandValue, CrateInputValue, crate_modules, crates, data_of_input, diagnostics, dump, edit, file_modules}
+use Rattle.hir_messages.specs.CommandValue.{impl_items, names, refresh, resolve, status, trait_items, tree}
 use Rattle.hir_wire.specs.Conditions.{option_of}
-use Rattle.hir_messages.specs.Edits.{set_file, remove_file, set_block, remove_block, set_expansion, remove_expansion}
+use Rattle.hir_messages.specs.Edits.{set_file, remove_file, set_block, remove_block, set_expansion, remove_expansion, set_crate}
 use Rattle.hir_wire.specs.Expansions.{entry_in, key_of}
 use Rattle.hir_wire.specs.Nodes.{source_of}
 use Rattle.hir_wire.specs.Paths.{name_of, path_of, file_of, bool_of, crate_of, number_of, place_of, block_place_of}
@@ -85,6 +85,7 @@ verb_of_word word =
     (if bytes_eq word (codes "remove block") then Some verb.RemoveBlock else
     (if bytes_eq word (codes "set expansion") then Some verb.SetExpansion else
     (if bytes_eq word (codes "remove expansion") then Some verb.RemoveExpansion else
+    (if bytes_eq word (codes "set crate") then Some verb.SetCrate else
     (if bytes_eq word (codes "refresh") then Some verb.Refresh else
     (if bytes_eq word (codes "resolve") then Some verb.Resolve else
     (if bytes_eq word (codes "trait items") then Some verb.TraitItems else
@@ -94,7 +95,7 @@ verb_of_word word =
     (if bytes_eq word (codes "diagnostics") then Some verb.Diagnostics else
     (if bytes_eq word (codes "names") then Some verb.Names else
     (if bytes_eq word (codes "modules") then Some verb.Modules else
-    (if bytes_eq word (codes "tree") then Some verb.Tree else None))))))))))))))))
+    (if bytes_eq word (codes "tree") then Some verb.Tree else None)))))))))))))))))
 
 -- the file and the source of an edit
 unfoldable pub set_file_in : Members → Reading CommandValue
@@ -107,6 +108,11 @@ set_block_in ms = made (λ p. edit (set_block p.0 p.1)) (paired (required block_
 -- what an expansion depends on, and what it gives
 unfoldable pub set_expansion_in : Members → Reading CommandValue
 set_expansion_in ms = made (λ p. edit (set_expansion p.0 p.1)) (paired (required key_of (codes "key") ms) (entry_in ms))
+
+-- the crate and the data that it gets; the object's root file, and whether it says a procedural macro's, are read and left aside
+unfoldable pub set_crate_in : Members → Reading CommandValue
+set_crate_in ms =
+    made (λ p. edit (set_crate p.0 (data_of_input p.1))) (paired (required crate_of (codes "crate") ms) (required crate_input_of (codes "to") ms))
 
 -- the crate or the file whose modules are asked for, by whether each of them is there
 abbrev pub modules_by : Bool → Bool → Members → Reading CommandValue
@@ -146,6 +152,7 @@ fields_of verb.SetBlock ms = set_block_in ms
 fields_of verb.RemoveBlock ms = made (λ place. edit (remove_block place)) (required block_place_of (codes "at") ms)
 fields_of verb.SetExpansion ms = set_expansion_in ms
 fields_of verb.RemoveExpansion ms = made (λ key. edit (remove_expansion key)) (required key_of (codes "key") ms)
+fields_of verb.SetCrate ms = set_crate_in ms
 fields_of verb.Refresh ms = Ok refresh
 fields_of verb.Resolve ms = resolve_in ms
 fields_of verb.TraitItems ms = trait_items_in ms

@@ -1,5 +1,6 @@
 //! Lines, and what is done with them.
 use crate::answers::{answer_below, answer_in, places_with};
+use crate::crates::{push_crate, push_dependencies, push_front, push_options};
 use crate::diagnostics::{diagnostics_below, diagnostics_of};
 use crate::keys::{push_entry, push_key};
 use crate::parts::push_parts;
@@ -146,6 +147,20 @@ fn with_command(
             read(alloc, &entry.source, out)
         }
         Command::Edit(Edit::RemoveExpansion { key }) => push_key(out, key),
+        Command::Edit(
+            Edit::SetCrate {
+                krate,
+                edition,
+                attrs,
+                cfg,
+                deps,
+            },
+        ) => {
+            push_crate(out, *krate, *edition)?;
+            push_options(out, cfg)?;
+            push_dependencies(out, deps)?;
+            push_front(alloc, out, attrs, cfg, *edition)
+        }
         Command::TraitItems { at, path } => push_trait(out, at, path),
         Command::ImplItems { at, number } => push_impl(out, at, *number),
         Command::Dump { at } => push_place(out, at),

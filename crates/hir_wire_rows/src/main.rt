@@ -7,7 +7,8 @@
 //!   top: its input, and its body, its fields' visibilities, or its macro's text, expander and helpers. Texts stand between backquotes.
 //!   Of an expansion that the command sets it first writes a line with what is in its key and a line with its error, if it
 //!   has one; of one that it removes the key alone. Of a block it first writes a line with its place, of a place that is
-//!   dumped nothing else, of a trait or an impl whose items are asked its place with its path or its number.
+//!   dumped nothing else, of a trait or an impl whose items are asked its place with its path or its number. Of a crate that
+//!   gets other data it writes its number and edition, each option, each dependency, and the page of a root file that can't be read.
 //! - `diagnose` makes a diagnostic of each node of that file, by its kind. The path of an attribute or a derive that names
 //!   no macro is that of the node's attribute; a macro call with an attribute has failed, and its input says why.
 //! - `name` names the last node of that file, and `expand` makes a diagnostic of it, as if it stood below the expansions of
@@ -20,6 +21,7 @@
 #![tactic(auto)]
 
 mod answers;
+mod crates;
 mod diagnostics;
 mod items;
 mod keys;

@@ -77,6 +77,11 @@ pub struct ToldKeeper {
     at: SystemTime,
 }
 
+// The parts of what was handed in, each in a file of its own.
+
+const WHOLE: &str = "all of it";
+const LOOKED_UP: &str = "what is looked up";
+
 /// Of the items of a file, but not of where they stand.
 fn hash_of(unit: &Unit) -> u64 {
     let mut hasher = DefaultHasher::new();
@@ -137,14 +142,14 @@ impl ToldKeeper {
         self.again(crates, program)
     }
 
-    /// The words by which what was handed in is kept.
-    fn words_of_record(&self) -> Vec<String> {
-        self.words.iter().cloned().chain(["handed in".to_owned()]).collect()
+    /// The words by which a part of what was handed in is kept.
+    fn words_of_record(&self, part: &str) -> Vec<String> {
+        self.words.iter().cloned().chain([format!("handed in: {part}")]).collect()
     }
 
     /// The same by what the program says to what is handed in again.
     fn again(&self, crates: &Crates, program: &Path) -> Option<Told> {
-        let text = self.keeper.read_text(&self.words_of_record())?;
+        let text = self.keeper.read_text(&self.words_of_record(LOOKED_UP))?;
         let (first, lines) = text.split_once('\n')?;
         let mut kept: KeptTold = serde_json::from_str(first).ok()?;
         if kept.asked != self.asked || !kept.stands_on.iter().all(|(path, it)| stamp(path).0 == *it) {
@@ -163,7 +168,8 @@ impl ToldKeeper {
                 Now::Gone => return None,
             }
         }
-        kept.told.nodes = recorded.nodes_after(&lines.lines().collect::<Vec<_>>(), crates, &edited, program)?;
+        let whole = || self.keeper.read_text(&self.words_of_record(WHOLE));
+        kept.told.nodes = recorded.nodes_after(lines, &whole, crates, &edited, program)?;
         self.keeper.write(&self.words, &kept);
         Some(kept.told)
     }
@@ -195,8 +201,8 @@ impl ToldKeeper {
         if let Ok(Some((recorded, lines))) = space.record() {
             kept.recorded = Some(recorded);
             let first = serde_json::to_string(&kept).unwrap_or_default();
-            let text: Vec<&str> = std::iter::once(&*first).chain(lines.iter().map(|it| &**it)).collect();
-            self.keeper.write_text(&self.words_of_record(), &text.join("\n"));
+            self.keeper.write_text(&self.words_of_record(WHOLE), &lines.whole);
+            self.keeper.write_text(&self.words_of_record(LOOKED_UP), &format!("{first}\n{}", lines.looked_up));
         }
     }
 }

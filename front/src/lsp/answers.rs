@@ -321,7 +321,8 @@ impl<W: Write> Server<W> {
     fn declared_at(&mut self, key: &Key, at: Position) -> Option<Declaration> {
         let text = self.unit_text(key);
         let parsed = self.space.as_ref()?.parsed(key)?;
-        declaration_at(&parsed.unit.items, at, &text)
+        // A file that is gone has no text.
+        declaration_at(&parsed.unit.items, at, &text).filter(|it| !it.head.is_empty())
     }
 
     pub(super) fn references(&mut self, params: &Value) -> Result<Result<Value, Failure>> {
@@ -452,12 +453,21 @@ impl<W: Write> Server<W> {
 
     pub(super) fn symbols(&mut self, params: &Value) -> Result<Value, Failure> {
         let key = asked_file(params)?;
-        let text = self.unit_text(&key);
-        let parsed = self.space.as_ref().and_then(|it| it.parsed(&key)).cloned();
-        // One that is no module of the package, or not yet.
-        let parsed = parsed.unwrap_or_else(|| parse_text(&path_of_key(&key), &key, text.as_str()).into());
-        let all = symbols_of(&parsed.unit.items, &text);
-        let made: Vec<Value> = all.iter().map(|it| self.symbol(it, &key)).collect();
+        let waiting = self.documents.get(&key).and_then(|it| Some((it.text.clone(), it.waits.clone()?)));
+        let made: Vec<Value> = match waiting {
+            Some((text, parsed)) => {
+                let all = symbols_of(&parsed.unit.items, &text);
+                all.iter().map(|it| symbol(it, &mut |span| text.range(span))).collect()
+            }
+            None => {
+                let text = self.unit_text(&key);
+                let parsed = self.space.as_ref().and_then(|it| it.parsed(&key)).cloned();
+                // One that is no module of the package, or not yet.
+                let parsed = parsed.unwrap_or_else(|| parse_text(&path_of_key(&key), &key, text.as_str()).into());
+                let all = symbols_of(&parsed.unit.items, &text);
+                all.iter().map(|it| symbol(it, &mut |span| self.range(&key, span))).collect()
+            }
+        };
         if self.has_nested_symbols {
             return Ok(made.into());
         }
@@ -466,22 +476,23 @@ impl<W: Write> Server<W> {
         flatten(&made, None, &uri, &mut flat);
         Ok(flat.into())
     }
+}
 
-    fn symbol(&mut self, symbol: &Symbol, key: &Key) -> Value {
-        let mut made = json!({
-            "name": symbol.name,
-            "kind": symbol.kind,
-            "range": self.range(key, symbol.span),
-            "selectionRange": self.range(key, symbol.name_span),
-        });
-        if !symbol.detail.is_empty() {
-            made["detail"] = symbol.detail.as_str().into();
-        }
-        if !symbol.children.is_empty() {
-            made["children"] = symbol.children.iter().map(|it| self.symbol(it, key)).collect();
-        }
-        made
+/// A symbol as the editor takes it. `range` is where a span of its file is now.
+fn symbol(it: &Symbol, range: &mut dyn FnMut(Span) -> Value) -> Value {
+    let mut made = json!({
+        "name": it.name,
+        "kind": it.kind,
+        "range": range(it.span),
+        "selectionRange": range(it.name_span),
+    });
+    if !it.detail.is_empty() {
+        made["detail"] = it.detail.as_str().into();
     }
+    if !it.children.is_empty() {
+        made["children"] = it.children.iter().map(|it| symbol(it, range)).collect();
+    }
+    made
 }
 
 pub(super) fn asked_file(params: &Value) -> Result<Key, Failure> {

@@ -12,18 +12,21 @@ use serde_json::{json, Value};
 
 use super::{key_of_place, span_of, Phase, Server, ERROR};
 use crate::report::Diagnostic;
-use crate::workspace::{bytes_of, parse_text, path_of_key, Key};
+use crate::unit::Built;
+use crate::workspace::{bytes_of, parse_text, path_of_key, Key, Parsed};
 
 /// What became of a text.
-#[derive(Clone, Copy, PartialEq, Eq)]
 pub(super) enum Reading {
     /// The items of its file are those of this text.
     Taken,
     /// It doesn't parse.
     Broken,
-    /// It isn't handed in yet: what is told is the same, but for places.
-    Waits,
+    /// What stands in it isn't handed in yet: what is told is the same, but for places.
+    Waits(Parsed),
 }
+
+/// The text of a file, and what stands in it where that is known.
+pub(super) type Typed = (Key, Arc<Text>, Option<Parsed>);
 
 impl<W: Write> Server<W> {
     /// Whether the file has the items of a module.
@@ -37,14 +40,16 @@ impl<W: Write> Server<W> {
         for key in keys {
             let text = bytes_of(&path_of_key(key)).ok().and_then(|it| String::from_utf8(it).ok());
             match text {
-                Some(text) if self.is_module(key) => texts.push((key.clone(), Arc::new(Text::new(text)))),
+                Some(text) if self.is_module(key) => texts.push((key.clone(), Arc::new(Text::new(text)), None)),
                 // Not there any more, no UTF-8, new, or included by another.
                 _ => others.push(key.clone()),
             }
         }
-        let readings = self.read_texts(&texts, false)?;
-        let taken = texts.into_iter().zip(readings).filter(|it| it.1 == Reading::Taken);
-        self.texts.extend(taken.map(|it| it.0));
+        for (key, text, reading) in self.read_texts(texts, false)? {
+            if matches!(reading, Reading::Taken) {
+                self.texts.insert(key, text);
+            }
+        }
         self.update_files(&others)
     }
 
@@ -64,66 +69,74 @@ impl<W: Write> Server<W> {
     }
 
     /// Hands texts in, where they don't wait.
-    pub(super) fn read_texts(&mut self, texts: &[(Key, Arc<Text>)], may_wait: bool) -> Result<Vec<Reading>> {
+    pub(super) fn read_texts(&mut self, texts: Vec<Typed>, may_wait: bool) -> Result<Vec<(Key, Arc<Text>, Reading)>> {
         let (mut readings, mut work, mut before) = (Vec::new(), Vec::new(), Vec::new());
-        for (key, text) in texts {
+        for (key, text, parsed) in texts {
             let Some(space) = self.space.as_mut() else {
-                return Ok(vec![Reading::Taken; texts.len()]);
+                readings.push((key, text, Reading::Taken));
+                continue;
             };
-            let parsed = parse_text(&path_of_key(key), key, text.as_str());
-            let built = space.built(key).cloned();
-            let has_items = built.is_some() && space.parsed(key).is_some_and(|it| it.error.is_none());
+            let parsed = parsed.unwrap_or_else(|| parse_text(&path_of_key(&key), &key, text.as_str()));
+            let built = space.built(&key).cloned();
+            let has_items = built.is_some() && space.parsed(&key).is_some_and(|it| it.error.is_none());
             if let (Some(error), true) = (&parsed.error, has_items) {
                 self.errors.insert(key.clone(), error.clone());
                 self.needs_report = true;
-                readings.push(Reading::Broken);
+                readings.push((key, text, Reading::Broken));
                 continue;
             }
-            self.needs_report |= self.errors.remove(key).is_some() || self.touched.contains(key);
+            self.needs_report |= self.errors.remove(&key).is_some() || self.touched.contains(&key);
             // Where the items stand that are told of has to be known.
-            let may_wait = may_wait && self.documents.get(key).is_some_and(|it| it.good.is_some());
-            if may_wait && !space.take_unchanged(key, &parsed) && space.reports_same(key, &parsed) {
-                readings.push(Reading::Waits);
+            let may_wait = may_wait && self.documents.get(&key).is_some_and(|it| it.good.is_some());
+            if may_wait && !space.take_unchanged(&key, &parsed) && space.reports_same(&key, &parsed) {
+                readings.push((key, text, Reading::Waits(parsed)));
                 continue;
             }
-            readings.push(Reading::Taken);
             work.push((key.clone(), parsed));
-            before.push((key, built));
+            before.push((key.clone(), built));
+            readings.push((key, text, Reading::Taken));
         }
-        if work.is_empty() {
-            return Ok(readings);
+        if !work.is_empty() {
+            self.hand_in(work, before)?;
         }
+        Ok(readings)
+    }
+
+    /// Hands in what stands in files. Of each is said what it was before.
+    fn hand_in(&mut self, work: Vec<(Key, Parsed)>, before: Vec<(Key, Option<Arc<Built>>)>) -> Result<()> {
         let work = std::cell::RefCell::new(work);
         // After a new start the texts are in it already.
         let resolved = self.with_space(|it| it.update_parsed(work.take()))?;
         self.needs_report |= resolved.is_some_and(|it| !it.is_empty());
         for (key, before) in before {
-            let after = self.space.as_ref().and_then(|it| it.built(key));
+            let after = self.space.as_ref().and_then(|it| it.built(&key));
             self.needs_report |= match (&before, after) {
                 (Some(before), Some(after)) => before.json != after.json,
                 (before, after) => before.is_some() || after.is_some(),
             };
         }
-        Ok(readings)
+        Ok(())
     }
 
     /// Hands in what was typed, and publishes what that changes. What changes nothing of it may wait.
     pub(super) fn flush(&mut self, may_wait: bool) -> Result<()> {
-        let mut texts: Vec<(Key, Arc<Text>)> = Vec::new();
+        let mut texts: Vec<Typed> = Vec::new();
         for (key, it) in &mut self.documents {
-            if it.is_dirty || it.waits && !may_wait {
-                (it.is_dirty, it.waits) = (false, false);
-                texts.push((key.clone(), it.text.clone()));
+            if it.is_dirty || it.waits.is_some() && !may_wait {
+                let parsed = it.waits.take().filter(|_| !it.is_dirty);
+                it.is_dirty = false;
+                texts.push((key.clone(), it.text.clone(), parsed));
             }
         }
         texts.sort_by(|one, two| one.0.cmp(&two.0));
-        let readings = self.read_texts(&texts, may_wait)?;
-        for ((key, text), reading) in texts.into_iter().zip(readings) {
-            if let Some(document) = self.documents.get_mut(&key) {
-                document.waits = reading == Reading::Waits;
-                if reading == Reading::Taken {
-                    document.good = Some(text);
-                }
+        for (key, text, reading) in self.read_texts(texts, may_wait)? {
+            let Some(document) = self.documents.get_mut(&key) else {
+                continue;
+            };
+            match reading {
+                Reading::Taken => document.good = Some(text),
+                Reading::Waits(it) => document.waits = Some(it),
+                Reading::Broken => {}
             }
         }
         if !std::mem::take(&mut self.needs_report) || self.phase != Phase::Serving {

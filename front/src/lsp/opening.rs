@@ -86,7 +86,7 @@ impl<W: Write> Server<W> {
                 );
                 (self.program, self.space) = (program, Some(space));
                 for it in self.documents.values_mut() {
-                    (it.is_dirty, it.waits, it.good) = (true, false, None);
+                    (it.is_dirty, it.waits, it.good) = (true, None, None);
                 }
                 self.log(INFO, &text)
             }

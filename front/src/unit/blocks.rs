@@ -118,13 +118,7 @@ struct Lowering<'a> {
 impl Lowering<'_> {
     fn items(&mut self, items: &[Item], around: Hash) {
         for item in items.iter().filter(|it| is_enabled(&it.attributes, self.options)) {
-            let inner = match &item.kind {
-                ItemKind::Module(Some(inner))
-                | ItemKind::Trait(inner)
-                | ItemKind::Impl { items: inner, .. }
-                | ItemKind::ExternBlock(inner) => &inner[..],
-                _ => &[],
-            };
+            let inner = item.inner();
             if let ItemKind::Call(call) = &item.kind {
                 self.call(call, &item.blocks, around.with("MacroCall").with(&call.path.text));
                 continue;

@@ -9,7 +9,7 @@ use anyhow::{bail, Result};
 use super::walk::{is_exported, target_of};
 use super::{Key, Parsed, Target, Workspace};
 use crate::cfg::Options;
-use crate::syntax::{unit_of, Item, ItemKind};
+use crate::syntax::{unit_of, Block, Item, ItemKind};
 use crate::token::{on_a_thread, spawn, tokens_of, Hash, Span, SyntaxError, MOST_BYTES};
 use crate::unit::{is_enabled, text_attribute, Given};
 
@@ -73,7 +73,8 @@ pub(super) fn parse(path: &Path, key: &Key) -> Parsed {
 
 pub(super) fn broken(path: &Path, error: SyntaxError, text: Hash) -> Parsed {
     let (path, real, given) = (path.to_owned(), real_path(path), Given::default());
-    Parsed { path, real, unit: Arc::default(), error: Some(error), text, given, is_plain: true }
+    let unit = Arc::default();
+    Parsed { path, real, unit, error: Some(error), text, given, is_plain: true, has_calls: false }
 }
 
 /// The path without links, by which one knows a file that is reached by several.
@@ -88,8 +89,8 @@ pub fn parse_text(path: &Path, key: &Key, text: &str) -> Parsed {
     match made {
         Ok(unit) => {
             let (given, is_plain) = (Given::by(&unit.items), unit.items.iter().all(is_plain));
-            let (path, real) = (path.to_owned(), real_path(path));
-            Parsed { path, real, unit: Arc::new(unit), error: None, text: hash, given, is_plain }
+            let (path, real, has_calls) = (path.to_owned(), real_path(path), hold_calls(&unit.items));
+            Parsed { path, real, unit: Arc::new(unit), error: None, text: hash, given, is_plain, has_calls }
         }
         Err(error) => broken(path, error, hash),
     }
@@ -103,6 +104,17 @@ fn is_plain(item: &Item) -> bool {
         _ => &[],
     };
     item.blocks.is_empty() && inner.iter().all(|it| it.blocks.is_empty())
+}
+
+/// Whether macro calls are among these items, or in them.
+fn hold_calls(items: &[Item]) -> bool {
+    fn in_blocks(blocks: &[Arc<Block>]) -> bool {
+        blocks.iter().any(|it| hold_calls(&it.items) || in_blocks(&it.blocks))
+    }
+    items.iter().any(|item| {
+        let is_one = matches!(item.kind, ItemKind::Call(_));
+        is_one || in_blocks(&item.blocks) || hold_calls(item.inner())
+    })
 }
 
 /// Does the work for each on as many threads as there are cores, at most four.

@@ -9,7 +9,7 @@ use serde_json::{json, Value};
 use super::expanded::Expanded;
 use super::files::{key_of, on_threads};
 use super::left_out::left_out_of;
-use super::{CrateState, Key, Sent, SentBlock, Workspace};
+use super::{CrateState, Key, Made, Sent, SentBlock, Workspace};
 use crate::cfg::Options;
 use crate::program::MOST_BYTES;
 use crate::syntax::{Block, Call, Item, ItemKind, Unit};
@@ -152,8 +152,15 @@ impl Workspace {
         let (all, parsed, replaced, has_blocks) =
             (&self.crates.all, &self.parsed, &self.replaced, self.hands_in_blocks());
         let (states, cache, moved, is_brief) = (&self.states, &self.cache, &self.moved, self.is_brief);
+        let mut before = self.made.take();
+        let is_made = |it: &Made, key: &Key, krate: u32| {
+            it.is_of(key, krate, &parsed[key].unit, left_out_of(key, states)) && parsed[key].error.is_none()
+        };
         let made = on_threads(&work, |(key, krate, _)| {
             let (parsed, krate) = (&parsed[key], *krate);
+            if before.as_ref().is_some_and(|it| is_made(it, key, krate)) {
+                return None;
+            }
             let expanded = Expanded { krate, state: &states[krate as usize], cache, moved };
             let options = &all[krate as usize].options;
             let without = Without { derives: left_out_of(key, states), associated: is_brief };
@@ -161,10 +168,14 @@ impl Workspace {
             if parsed.error.is_some() {
                 built.json = "\"broken\"".to_owned();
             }
-            (Arc::new(built), blocks)
+            Some((Arc::new(built), blocks))
         });
         let mut changed = HashSet::new();
-        for ((key, krate, replaced), (built, blocks)) in work.into_iter().zip(made) {
+        for ((key, krate, replaced), made) in work.into_iter().zip(made) {
+            let made = made.or_else(|| before.take().map(|it| (it.built, it.blocks)));
+            let Some((built, blocks)) = made else {
+                continue;
+            };
             let unit = self.parsed[&key].unit.clone();
             let with_blocks = self.states[krate as usize].expansions_with_blocks.get(&key).cloned().unwrap_or_default();
             let left_out = left_out_of(&key, &self.states);

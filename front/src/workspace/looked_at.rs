@@ -16,6 +16,22 @@ pub(super) fn looked_at(unit: &Unit) -> u64 {
     hasher.finish()
 }
 
+/// The hash of the imports of a file, but for those in bodies.
+pub(super) fn imports(unit: &Unit) -> u64 {
+    fn add(all: &[Item], hasher: &mut DefaultHasher) {
+        for it in all {
+            match &it.kind {
+                ItemKind::Use(_) => it.hash(hasher),
+                ItemKind::Module(Some(inner)) => add(inner, hasher),
+                _ => {}
+            }
+        }
+    }
+    let mut hasher = DefaultHasher::new();
+    add(&unit.items, &mut hasher);
+    hasher.finish()
+}
+
 fn items(all: &[Item], hasher: &mut DefaultHasher) {
     for it in all {
         match &it.kind {

@@ -5,6 +5,8 @@
 //! reached. So the units of all other files and all expansions are those that would be handed in anew. The program is
 //! asked what it was asked for the report; where it replies the same, and no import names what an item doesn't hold, the
 //! report is the same. Where only items come, go or change whose names nothing looks up, it isn't asked.
+//!
+//! Handed in again is what may be looked up. The rest is kept apart, for edits that look that up.
 
 use std::collections::{BTreeSet, HashSet};
 use std::path::Path;
@@ -17,6 +19,7 @@ use super::expansions::macro_question;
 use super::files::key_of;
 use super::hand_in::set_file;
 use super::looked_at::looked_at;
+use super::looked_up::{without, without_others, Command};
 use super::unnamed::{are_unnamed, Edit};
 use super::{Key, Parsed, Workspace};
 use crate::cfg::Options;
@@ -62,6 +65,10 @@ struct File {
 #[derive(Serialize, Deserialize)]
 pub(crate) struct Recorded {
     files: Vec<File>,
+    /// The names of what is left out of the lines that are handed in again, since nothing looks it up.
+    left_out: BTreeSet<String>,
+    /// The hash of all lines, with what is left out.
+    whole: String,
     /// The names of types that stand in no file that may be edited.
     type_names: BTreeSet<String>,
     /// What was asked, and the hash of each reply.
@@ -69,6 +76,27 @@ pub(crate) struct Recorded {
     /// The crates whose imports were looked at for what an item doesn't hold.
     judged: Vec<u32>,
 }
+
+/// The commands of a session, each a line: that of the crates, those of files, and those of expansions.
+pub(crate) struct Lines {
+    pub whole: String,
+    /// Without what nothing looks up.
+    pub looked_up: String,
+}
+
+/// A file that says something else now.
+struct Edited {
+    /// Its place among the files.
+    at: usize,
+    now: Editable,
+    nodes: usize,
+    /// The command that sets it.
+    line: String,
+    has_same_globs: bool,
+}
+
+/// What is told of names that a glob may bring.
+const UNRESOLVED: [&str; 2] = ["\"unresolved import\"", "\"unresolved macro call\""];
 
 fn imports_of(built: &Built) -> Vec<Import> {
     let leaf = |it: &crate::unit::Leaf| (it.path.clone(), it.binds.as_ref().map(|it| it.to_string()));
@@ -125,9 +153,8 @@ impl Workspace {
         self.program.noted = Some(Vec::new());
     }
 
-    /// What was handed in, and what was asked since [`Workspace::note_questions`], with the commands: that of the crates,
-    /// those of files, and those of expansions. None where not all could be read.
-    pub(crate) fn record(&mut self) -> Result<Option<(Recorded, Vec<String>)>> {
+    /// What was handed in, and what was asked since [`Workspace::note_questions`]. None where not all could be read.
+    pub(crate) fn record(&mut self) -> Result<Option<(Recorded, Lines)>> {
         let is_whole = self.refused.is_empty() && self.circular.is_empty();
         let is_noted = self.program.noted.is_some();
         if !is_whole || !is_noted || !self.is_brief || self.parsed.values().any(|it| it.error.is_some()) {
@@ -142,25 +169,33 @@ impl Workspace {
         let (needed, trimmed) = self.needed();
         let mut made = Recorded {
             files: Vec::new(),
+            left_out: BTreeSet::new(),
+            whole: String::new(),
             type_names: BTreeSet::new(),
             asked,
             judged: (0..self.crates.all.len() as u32).filter(|it| self.crates.all[*it as usize].is_asked).collect(),
         };
-        let mut lines = vec![self.crates_line.clone()];
+        let mut commands: Vec<Command> = vec![(self.crates_line.clone(), true)];
         let mut keys: Vec<&Key> = self.sent.keys().collect();
         keys.sort();
         for key in keys {
             let (file, line) = self.record_file(key, &needed, &trimmed, &mut made.type_names);
             let is_above = self.crates_of(key).iter().any(|it| above.contains(it));
-            made.files.push(File { line: line.is_some().then_some(lines.len()), is_above, ..file });
-            lines.extend(line);
+            made.files.push(File { line: line.is_some().then_some(commands.len()), is_above, ..file });
+            commands.extend(line.map(|it| (it, is_above)));
         }
         for (key, it) in &self.expansions {
             made.type_names.extend(it.built.type_names().iter().map(|it| it.to_string()));
-            if caller_of(key).map_or(true, |it| needed.contains(&it)) {
-                lines.push(it.line.clone());
+            let caller = caller_of(key);
+            if caller.map_or(true, |it| needed.contains(&it)) {
+                commands.push((it.line.clone(), caller.map_or(true, |it| above.contains(&it))));
             }
         }
+        let questions: Vec<&str> = made.asked.iter().map(|it| &*it.0).collect();
+        let (looked_up, left_out) = without_others(&commands, &questions);
+        let whole: Vec<&str> = commands.iter().map(|it| &*it.0).collect();
+        let lines = Lines { whole: whole.join("\n"), looked_up: looked_up.join("\n") };
+        (made.left_out, made.whole) = (left_out, hash_of(&lines.whole));
         Ok(Some((made, lines)))
     }
 
@@ -255,28 +290,57 @@ impl Workspace {
 
 impl Recorded {
     /// How many nodes there are where these files say something else now. None where not the same may be reported then.
+    /// `lines` are the commands without what nothing looks up; `whole` answers all of them.
     pub fn nodes_after(
         &self,
-        lines: &[&str],
+        lines: &str,
+        whole: &dyn Fn() -> Option<String>,
         crates: &Crates,
         edited: &[(Key, Parsed)],
         program: &Path,
     ) -> Option<usize> {
-        let mut files: Vec<(&str, usize, Option<Editable>)> = Vec::new();
-        files.extend(self.files.iter().map(|it| (&*it.key, it.nodes, None)));
-        let mut lines = lines.to_vec();
-        let mut made = Vec::new();
-        for (key, parsed) in edited {
-            let at = self.files.binary_search_by(|it| (*it.key).cmp(key)).ok()?;
-            let before = self.files[at].editable.as_ref()?;
-            let options = &crates.all.get(before.krate as usize)?.options;
-            let (now, built) = after(before, parsed, options)?;
-            files[at] = (key, built.nodes.len(), Some(now));
-            made.push((self.files[at].line?, set_file(key, &built.json)));
-        }
-        let count = || files.iter().map(|it| it.1).sum::<usize>();
+        let edits: Vec<Edited> = edited.iter().map(|it| self.edited(crates, it)).collect::<Option<_>>()?;
+        let shorter: Option<Vec<String>> = edits.iter().map(|it| without(&it.line, &self.left_out)).collect();
+        let is_same = match shorter {
+            Some(made) => self.tells_same(crates, lines, made, &edits, edited, program),
+            None => {
+                let whole = whole().filter(|it| hash_of(it) == self.whole)?;
+                let made = edits.iter().map(|it| it.line.clone()).collect();
+                self.tells_same(crates, &whole, made, &edits, edited, program)
+            }
+        };
+        let nodes = self.files.iter().enumerate().map(|(at, it)| {
+            let edit = edits.iter().find(|it| it.at == at);
+            edit.map_or(it.nodes, |it| it.nodes)
+        });
+        is_same?.then(|| nodes.sum())
+    }
+
+    /// What an edited file is now, if it may be edited so.
+    fn edited(&self, crates: &Crates, (key, parsed): &(Key, Parsed)) -> Option<Edited> {
+        let at = self.files.binary_search_by(|it| (*it.key).cmp(key)).ok()?;
+        let before = self.files[at].editable.as_ref()?;
+        let options = &crates.all.get(before.krate as usize)?.options;
+        let (now, built) = after(before, parsed, options)?;
+        let has_same_globs = globs(&now.imports).eq(globs(&before.imports));
+        Some(Edited { at, nodes: built.nodes.len(), line: set_file(key, &built.json), now, has_same_globs })
+    }
+
+    /// Whether the same is told where edited files are set by these commands in place of those among the lines.
+    fn tells_same(
+        &self,
+        crates: &Crates,
+        lines: &str,
+        made: Vec<String>,
+        edits: &[Edited],
+        edited: &[(Key, Parsed)],
+        program: &Path,
+    ) -> Option<bool> {
+        let mut lines: Vec<&str> = lines.lines().collect();
+        let places: Vec<usize> = edits.iter().map(|it| self.files[it.at].line).collect::<Option<_>>()?;
+        let made: Vec<(usize, String)> = places.into_iter().zip(made).collect();
         if self.is_unnamed(&lines, &made) {
-            return Some(count());
+            return Some(true);
         }
         for (at, line) in &made {
             *lines.get_mut(*at)? = line;
@@ -284,12 +348,20 @@ impl Recorded {
         if lines.iter().any(|it| it.len() > MOST_BYTES) {
             return None;
         }
-        let now: Vec<Option<&Editable>> =
-            self.files.iter().zip(&files).map(|(it, (_, _, now))| now.as_ref().or(it.editable.as_ref())).collect();
         let mut program = Program::start(program).ok()?;
-        let same = self.replies_are_same(crates, &lines, &now, edited, &mut program);
+        let same = self.replies_are_same(crates, &lines, edits, edited, &mut program);
         program.end();
-        same.ok()?.then(count)
+        same.ok()
+    }
+
+    /// What each file is now that may be edited.
+    fn editable_now<'a>(&'a self, edits: &'a [Edited]) -> Vec<Option<&'a Editable>> {
+        let files = self.files.iter().enumerate();
+        let now = files.map(|(at, it)| {
+            let edit = edits.iter().find(|it| it.at == at);
+            edit.map(|it| &it.now).or(it.editable.as_ref())
+        });
+        now.collect()
     }
 
     /// Whether these commands in place of others bring, take away or change such items alone whose names stand in nothing
@@ -308,7 +380,7 @@ impl Recorded {
         &self,
         crates: &Crates,
         lines: &[&str],
-        now: &[Option<&Editable>],
+        edits: &[Edited],
         edited: &[(Key, Parsed)],
         program: &mut Program,
     ) -> Result<bool> {
@@ -321,6 +393,12 @@ impl Recorded {
         if !self.asked.iter().zip(&replies).all(|(it, reply)| it.1 == hash_of(reply)) {
             return Ok(false);
         }
+        // Whether a name is judged that isn't found may hang on globs.
+        let is_unresolved = |it: &String| UNRESOLVED.iter().any(|kind| it.contains(kind));
+        if edits.iter().any(|it| !it.has_same_globs) && replies.iter().any(is_unresolved) {
+            return Ok(false);
+        }
+        let now = &self.editable_now(edits)[..];
         for ((question, _), reply) in self.asked.iter().zip(&replies) {
             if question.starts_with("{\"do\":\"diagnostics\"") && !self.names_same(now, edited, reply) {
                 return Ok(false);
@@ -383,7 +461,7 @@ impl Recorded {
     }
 }
 
-/// What an edited file is now, if a walk looks at the same in it, and its globs are the same.
+/// What an edited file is now, if a walk looks at the same in it.
 fn after(before: &Editable, parsed: &Parsed, options: &Options) -> Option<(Editable, Built)> {
     if parsed.error.is_some() || looked_at(&parsed.unit) != before.looked_at {
         return None;
@@ -391,5 +469,5 @@ fn after(before: &Editable, parsed: &Parsed, options: &Options) -> Option<(Edita
     let without = Without { derives: before.left_out, associated: true };
     let built = build_without(&parsed.unit, options, &|_| None, without);
     let now = Editable::new(before.krate, before.module.clone(), before.left_out, &parsed.unit, &built);
-    globs(&now.imports).eq(globs(&before.imports)).then_some((now, built))
+    Some((now, built))
 }

@@ -19,6 +19,11 @@ const MOST_OF_NAME: usize = 1000;
 /// In a longer command there may be more nodes than the program takes.
 const MOST_OF_LINE: usize = 4 << 20;
 
+/// What a command says, if it isn't too long.
+pub(super) fn value_of(line: &str) -> Option<Value> {
+    serde_json::from_str(Some(line).filter(|it| it.len() <= MOST_OF_LINE)?).ok()
+}
+
 /// The command that sets a file, as it was and as it is now.
 pub(super) struct Edit {
     before: Value,
@@ -28,8 +33,7 @@ pub(super) struct Edit {
 impl Edit {
     /// None where one of the commands is none.
     pub fn read(before: &str, now: &str) -> Option<Edit> {
-        let read = |it: &str| serde_json::from_str(Some(it).filter(|it| it.len() <= MOST_OF_LINE)?).ok();
-        Some(Edit { before: read(before)?, now: read(now)? })
+        Some(Edit { before: value_of(before)?, now: value_of(now)? })
     }
 }
 
@@ -98,31 +102,41 @@ impl<'a> Changes<'a> {
 
     /// Adds the names of an item that looks none up.
     fn add_item(&mut self, node: &'a Value) -> Option<()> {
-        let mut names = vec![node["name"].as_str()?];
-        for (field, value) in node.as_object()? {
-            let is_plain = match &**field {
-                "kind" => PLAIN.contains(&value.as_str()?),
-                "id" | "name" | "shape" => true,
-                "vis" => is_plain_visibility(value),
-                "fields" => value.as_array()?.iter().all(is_plain_visibility),
-                "items" => value.as_array()?.is_empty(),
-                "variants" => {
-                    let variants = value.as_array()?;
-                    for it in variants {
-                        names.push(it["name"].as_str()?);
-                    }
-                    let is_plain = |it: &String| matches!(&**it, "id" | "name" | "shape");
-                    variants.iter().filter_map(Value::as_object).all(|it| it.keys().all(is_plain))
-                }
-                _ => false,
-            };
-            if !is_plain {
-                return None;
-            }
-        }
-        self.names.extend(&names);
-        names.iter().all(|it| it.len() <= MOST_OF_NAME && it.chars().all(is_of_word)).then_some(())
+        self.names.extend(plain_names(node)?);
+        Some(())
     }
+}
+
+/// The names of an item that looks none up: its own and those of its variants. None of other nodes.
+pub(super) fn plain_names(node: &Value) -> Option<Vec<&str>> {
+    let mut names = vec![node["name"].as_str()?];
+    for (field, value) in node.as_object()? {
+        let is_plain = match &**field {
+            "kind" => PLAIN.contains(&value.as_str()?),
+            "id" | "name" | "shape" => true,
+            "vis" => is_plain_visibility(value),
+            "fields" => value.as_array()?.iter().all(is_plain_visibility),
+            "items" => value.as_array()?.is_empty(),
+            "variants" => {
+                let variants = value.as_array()?;
+                for it in variants {
+                    names.push(it["name"].as_str()?);
+                }
+                let is_plain = |it: &String| matches!(&**it, "id" | "name" | "shape");
+                variants.iter().filter_map(Value::as_object).all(|it| it.keys().all(is_plain))
+            }
+            _ => false,
+        };
+        if !is_plain {
+            return None;
+        }
+    }
+    names.iter().all(|it| is_plain_name(it)).then_some(names)
+}
+
+/// Whether a name is one word, and short enough for the program.
+pub(super) fn is_plain_name(name: &str) -> bool {
+    name.len() <= MOST_OF_NAME && name.chars().all(is_of_word)
 }
 
 /// Whether a word stands in a text of these values.

@@ -9,13 +9,13 @@ use anyhow::Result;
 use super::files::{key_of, parse, parse_text, path_of_key};
 use super::hand_in::{built_of, set_file};
 use super::left_out::left_out_of;
-use super::looked_at::looked_at;
+use super::looked_at::{imports, looked_at};
 use super::recorded::caller_of;
 use super::unnamed::{are_unnamed, Edit};
-use super::{Key, Parsed, Sent, Workspace};
+use super::{Key, Made, Parsed, Sent, Workspace};
 use crate::syntax::Unit;
 use crate::token::Hash;
-use crate::unit::{build_without, quoted, Built, BuiltBlock, Without};
+use crate::unit::{build_without, quoted, Built, BuiltBlock, Derives, Without};
 
 impl Workspace {
     /// The files that were looked for without being read as modules: those that weren't there, and what `include!` names.
@@ -34,13 +34,21 @@ impl Workspace {
         path.extension().is_some_and(|it| it == "rs") || key_of(path).is_ok_and(|it| is_included(&it))
     }
 
+    /// The files below a folder that were read, or that a module looked for.
+    pub fn files_below(&self, folder: &str) -> Vec<Key> {
+        let is_below = |key: &&Key| key.strip_prefix(folder).is_some_and(|it| it.starts_with('/'));
+        let missing = self.states.iter().flat_map(|it| &it.missing);
+        self.parsed.keys().chain(missing).filter(is_below).cloned().collect()
+    }
+
     /// Reads these files again where they changed. Answers which crates were resolved again, or none where nothing
     /// that resolution reads changed.
     pub fn update(&mut self, paths: &[PathBuf]) -> Result<Vec<u32>> {
         let mut crates = self.restore_circular();
         for path in paths {
             let key = key_of(path)?;
-            let is_there = path.is_file();
+            // That the root of a crate isn't there is told of it.
+            let is_read = path.is_file() || self.is_root(&key);
             let including = (0..self.states.len()).filter(|it| self.states[*it].included.contains(&key));
             let including: Vec<u32> = including.map(|it| it as u32).collect();
             if !including.is_empty() {
@@ -50,7 +58,7 @@ impl Workspace {
                 all.iter().for_each(|it| self.remove_expansion(it));
                 crates.extend(including);
             }
-            if is_there {
+            if is_read {
                 let parsed = parse(path, &key);
                 if self.parsed.get(&key).is_some_and(|it| it.text == parsed.text && it.error == parsed.error) {
                     continue;
@@ -63,7 +71,7 @@ impl Workspace {
                 continue;
             }
             crates.extend(self.looking_for(&key));
-            if !is_there {
+            if !is_read {
                 if let Some(it) = self.sent.remove(&key) {
                     self.type_names.remove(&it.built);
                 }
@@ -78,6 +86,10 @@ impl Workspace {
         self.settle(&crates)
     }
 
+    fn is_root(&self, key: &Key) -> bool {
+        self.crates.all.iter().any(|it| key_of(&it.root).is_ok_and(|it| it == *key))
+    }
+
     /// Takes what stands in a file now where its unit is the one that was handed in: only places are others then.
     fn take_same(&mut self, key: &Key, parsed: &Parsed) -> bool {
         let Some(krate) = self.crates_of(key).first().copied().filter(|_| parsed.error.is_none()) else {
@@ -90,27 +102,32 @@ impl Workspace {
         if self.is_brief && looked_at(&sent.unit) != looked_at(&parsed.unit) {
             return false;
         }
-        self.moved.get_mut().unwrap_or_else(PoisonError::into_inner).clear();
-        let (options, expanded) = (&self.crates.all[krate as usize].options, self.expanded(krate));
         let left_out = left_out_of(key, &self.states);
-        let without = Without { derives: left_out, associated: self.is_brief };
-        let has_blocks = self.hands_in_blocks();
-        let (built, blocks) = built_of(&parsed.unit, options, without, &self.replaced, expanded, has_blocks);
+        let is_it = |it: &Made| it.is_of(key, krate, &parsed.unit, left_out);
+        let made = self.made.take().filter(is_it).unwrap_or_else(|| self.make(key, krate, &parsed.unit, left_out));
         let is_same = |it: (&BuiltBlock, &BuiltBlock)| it.0.is_same(it.1);
-        let are_same = blocks.len() == sent.blocks.len() && blocks.iter().zip(&sent.blocks).all(is_same);
-        if built.json != sent.built.json || left_out != sent.left_out || !are_same {
+        let are_same = made.blocks.len() == sent.blocks.len() && made.blocks.iter().zip(&sent.blocks).all(is_same);
+        if made.built.json != sent.built.json || left_out != sent.left_out || !are_same {
+            self.made = Some(made).filter(|_| !parsed.has_calls);
             return false;
         }
-        let (path, real, unit) = (parsed.path.clone(), parsed.real.clone(), parsed.unit.clone());
-        let (text, given, is_plain) = (parsed.text, parsed.given, parsed.is_plain);
-        let (replaced, with_blocks) = (sent.replaced.clone(), sent.with_blocks.clone());
-        let krate = sent.krate;
+        let Made { unit, built, blocks, .. } = made;
+        let (replaced, with_blocks, krate) = (sent.replaced.clone(), sent.with_blocks.clone(), sent.krate);
         self.type_names.add(&built);
         self.type_names.remove(&sent.built);
-        let sent = Sent { krate, unit: unit.clone(), replaced, with_blocks, left_out, built: Arc::new(built), blocks };
+        let sent = Sent { krate, unit, replaced, with_blocks, left_out, built, blocks };
         self.sent.insert(key.clone(), sent);
-        self.parsed.insert(key.clone(), Arc::new(Parsed { path, real, unit, error: None, text, given, is_plain }));
+        self.parsed.insert(key.clone(), Arc::new(parsed.clone()));
         true
+    }
+
+    /// Makes of the items of a file what is handed in.
+    fn make(&self, key: &Key, krate: u32, unit: &Arc<Unit>, left_out: Derives) -> Made {
+        self.moved.lock().unwrap_or_else(PoisonError::into_inner).clear();
+        let (options, expanded) = (&self.crates.all[krate as usize].options, self.expanded(krate));
+        let without = Without { derives: left_out, associated: self.is_brief };
+        let (built, blocks) = built_of(unit, options, without, &self.replaced, expanded, self.hands_in_blocks());
+        Made { key: key.clone(), krate, unit: unit.clone(), left_out, built: Arc::new(built), blocks }
     }
 
     /// Takes a text in place of what the file holds, as an editor has it.
@@ -155,7 +172,8 @@ impl Workspace {
         let is_once = state.files.iter().filter(|it| it.0 == *key).count() == 1;
         let are_whole = self.parsed.get(key).is_some_and(|it| it.error.is_none()) && parsed.error.is_none();
         let is_known = self.circular.is_empty() && self.refused.is_empty() && sent.replaced.is_empty();
-        if !is_once || !are_whole || !is_known || looked_at(&sent.unit) != looked_at(&parsed.unit) {
+        let is_same = |of: fn(&Unit) -> u64| of(&sent.unit) == of(&parsed.unit);
+        if !is_once || !are_whole || !is_known || !is_same(imports) || !is_same(looked_at) {
             return false;
         }
         // No report hangs on impls and on what is in traits.
@@ -166,9 +184,8 @@ impl Workspace {
             return false;
         };
         // A crate stands behind all that it stands on.
-        let above = &self.states[krate as usize..];
-        let sees = |it: &&Key| **it != *key && above.iter().any(|state| state.places.contains_key(*it));
-        let files: Vec<&Built> = self.sent.keys().filter(sees).map(|it| &*self.sent[it].built).collect();
+        let above = self.states[krate as usize..].iter().flat_map(|it| it.places.keys()).filter(|it| *it != key);
+        let files: Vec<&Built> = above.filter_map(|it| self.built(it)).map(|it| &**it).collect();
         let is_above = |key: &str| caller_of(key).map_or(true, |it| it >= krate);
         are_unnamed(&[edit], |name| {
             let mut expansions = self.expansions.iter().filter(|it| is_above(it.0));

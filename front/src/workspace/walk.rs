@@ -40,6 +40,8 @@ pub(super) struct Walk<'a> {
     /// Whether it is in what a call brings that no rules expand, so that positions are those of another text.
     is_elsewhere: bool,
     files: Vec<(Key, Vec<String>)>,
+    /// In how many modules each of these was come upon.
+    modules: HashMap<Key, usize>,
     /// The files around, without links.
     around: Vec<Arc<Path>>,
     /// The files that count as broken, since their modules lead back to them or are too many.
@@ -79,6 +81,7 @@ impl Walk<'_> {
             depth: 0,
             is_elsewhere: false,
             files: Vec::new(),
+            modules: HashMap::new(),
             around: Vec::new(),
             circular: Vec::new(),
             missing: HashSet::new(),
@@ -126,11 +129,13 @@ impl Walk<'_> {
         let Some(parsed) = self.space.parsed.get(key).cloned().filter(|_| place.len() <= MOST_NESTED) else {
             return;
         };
-        if parsed.error.is_none() && self.files.iter().filter(|it| it.0 == *key).count() >= MOST_MODULES {
+        let modules = self.modules.entry(key.clone()).or_default();
+        if parsed.error.is_none() && *modules >= MOST_MODULES {
             let message = format!("more than {MOST_MODULES} modules have their items in this file");
             self.circular.push((key.clone(), SyntaxError { at: Span::default(), message }));
             return;
         }
+        *modules += 1;
         self.files.push((key.clone(), place.to_vec()));
         self.around.push(parsed.real.clone());
         if !parsed.is_plain && is_enabled(&parsed.unit.attributes, self.options()) {

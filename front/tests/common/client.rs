@@ -145,7 +145,13 @@ impl Client {
 
     fn steady(&self, it: &Value) -> Value {
         let text = it.to_string().replace(&self.folder, "DIR").replace(own("").to_str().unwrap(), "FRONT/");
-        serde_json::from_str(&text).unwrap()
+        let mut made: Value = serde_json::from_str(&text).unwrap();
+        // What Cargo says hangs on its version.
+        let message = made["params"]["message"].as_str().filter(|it| it.contains("Cargo can't resolve"));
+        if let Some((first, _)) = message.and_then(|it| it.split_once('\n')) {
+            made["params"]["message"] = format!("{first} ..").into();
+        }
+        made
     }
 
     pub fn end(mut self) -> i32 {

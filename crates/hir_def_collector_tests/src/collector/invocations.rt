@@ -98,10 +98,24 @@ fn lists_one_impl(rt: &impl Abort, map: &DefMap) -> Result<(), Fail> {
     Ok(())
 }
 
+/// Its one path is noted, and it is no call.
+fn notes_one_path(rt: &impl Abort, map: &DefMap) -> Result<(), Fail> {
+    let scope = map.scope(0).ok_or("the root")?;
+    let (item, attributes) = scope.derive_macro_invocs().next().ok_or("no item")?;
+    assert!(rt; *item == node(AstKind::Struct, 2));
+    assert!(rt; attributes.as_slice().len() == 1);
+    let attribute = attributes.as_slice().first().ok_or("no attribute")?;
+    assert!(rt; matches!(attribute.derive_call_ids(), [Some(_)]));
+    let mut calls = scope.all_macro_calls();
+    assert!(rt; calls.next().is_none());
+    Ok(())
+}
+
 /// A builtin derive is an impl that the module lists.
 #[test]
 fn builtin_derive_becomes_an_impl(rt: HostRuntime) -> Result<(), Fail> {
     let found = collected_over::<Runs>(rt.alloc(), &[("a.rs", DERIVED)])?;
     assert!(rt; found.map.diagnostics().as_slice().len() == 0);
-    lists_one_impl(&rt, &found.map)
+    lists_one_impl(&rt, &found.map)?;
+    notes_one_path(&rt, &found.map)
 }

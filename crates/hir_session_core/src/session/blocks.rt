@@ -26,7 +26,12 @@ fn told_with_steps(block: &BlockPlace, verdict: Result<(), EditError>) -> Result
 {
     match verdict {
         Err(EditError::Memory) => verdict,
-        Err(EditError::UnknownCrate | EditError::TooLarge(_) | EditError::DuplicateId { .. })
+        Err(
+            EditError::UnknownCrate
+            | EditError::TooLarge(_)
+            | EditError::DependencyOrder(_)
+            | EditError::DuplicateId { .. },
+        )
         | Ok(()) => check_with_steps(block, verdict),
     }
 }

@@ -4,9 +4,9 @@ ghost use Rattle.serde_json.specs.View.{view, members_view};
 ghost use Rattle.hir_messages.specs.CommandValue.{command_view, crate_modules, file_modules};
 ghost use Rattle.hir_wire.specs.Paths.{crate_of, file_of};
 ghost use Rattle.hir_wire.specs.Reading.{Reads, made, required, word_as};
-ghost use Rattle.hir_wire.specs.Commands.{verb_of_word, set_file_in, set_expansion_in, set_block_in, resolve_in, trait_items_in, impl_items_in, modules_in, tree_in, fields_of, command_with, command_of, data_of, reading_of};
+ghost use Rattle.hir_wire.specs.Commands.{verb_of_word, set_file_in, set_expansion_in, set_block_in, set_crate_in, resolve_in, trait_items_in, impl_items_in, modules_in, tree_in, fields_of, command_with, command_of, data_of, reading_of};
 
-use crate::command::{Command, MacroStyle, Shadow};
+use crate::command::{Command, CrateInput, MacroStyle, Shadow};
 use crate::edit::Edit;
 use crate::json::combinators::{both, required};
 use crate::json::floats::holds_float;
@@ -14,6 +14,7 @@ use crate::json::from_json::has_member;
 use crate::json::words::{Word, optional_word, required_word};
 use crate::read::expansion::read_entry;
 use crate::read_error::ReadError;
+use hir_base::ids::Crate;
 use serde_json::{Map, Value};
 use std::alloc::Global;
 
@@ -27,6 +28,7 @@ pub enum Verb {
     RemoveBlock,
     SetExpansion,
     RemoveExpansion,
+    SetCrate,
     Refresh,
     Resolve,
     TraitItems,
@@ -53,6 +55,7 @@ impl Word for Verb {
             "remove block" => Some(Verb::RemoveBlock),
             "set expansion" => Some(Verb::SetExpansion),
             "remove expansion" => Some(Verb::RemoveExpansion),
+            "set crate" => Some(Verb::SetCrate),
             "refresh" => Some(Verb::Refresh),
             "resolve" => Some(Verb::Resolve),
             "trait items" => Some(Verb::TraitItems),
@@ -159,6 +162,26 @@ fn read_remove_expansion(alloc: Global, members: &Map<String, Value>) -> Result<
 {
     match required(alloc, members, "key") {
         Ok(key) => Ok(Command::Edit(Edit::RemoveExpansion { key })),
+        Err(error) => Err(error),
+    }
+}
+
+/// The object's root file, and whether it is a procedural macro's, are read and left aside.
+#[tactic(auto, unfolding(crate::specs::Commands::set_crate_in))]
+fn read_set_crate(alloc: Global, members: &Map<String, Value>) -> Result<Command, ReadError>
+    ensures value { Reads command_view (set_crate_in (members_view members.now.entries)) result }
+{
+    match both(
+        required::<Crate>(alloc, members, "crate"),
+        required::<CrateInput>(alloc, members, "to"),
+    ) {
+        Ok((krate, to)) => Ok(Command::Edit(Edit::SetCrate {
+            krate,
+            edition: to.edition,
+            attrs: to.attrs,
+            cfg: to.cfg,
+            deps: to.deps,
+        })),
         Err(error) => Err(error),
     }
 }
@@ -325,6 +348,7 @@ fn read_verb_fields(
         Verb::RemoveBlock => read_remove_block(alloc, members),
         Verb::SetExpansion => read_set_expansion(alloc, members),
         Verb::RemoveExpansion => read_remove_expansion(alloc, members),
+        Verb::SetCrate => read_set_crate(alloc, members),
         Verb::Refresh => Ok(Command::Refresh),
         Verb::Resolve => read_resolve(alloc, members),
         Verb::TraitItems => read_trait_items(alloc, members),

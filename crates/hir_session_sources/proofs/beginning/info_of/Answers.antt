@@ -7,7 +7,7 @@ returns c = rw c.new.ensures.value (record {
   made = record {
     root = c.in_ok-clone.ensures.value;
     is_proc_macro = refl;
-    config = c.in_ok-config.ensures.config;
+    config = rw c.as_slice.ensures.value at c.in_ok-config.ensures.config;
   };
   number = refl;
 })
