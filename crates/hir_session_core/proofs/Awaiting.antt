@@ -216,6 +216,10 @@ module _ (old new : SessionState) (b : BlockPlace) (fell : List MapId)
   pending_settled : ArePendingBut new now.keys fell
   pending_settled = record { all = each; own = each_own; only = no_other }
 
+-- what is kept of a block under a number
+abbrev kept_under : BlockPlace → Resolutions → Option BlockId → Option Resolution
+kept_under b kept o = option_and_then (λ (n : BlockId). kept_in kept (block_map b.holder.krate n)) o
+
 -- what is kept of each place is what was, or nothing
 abbrev Fewer : Resolutions → Resolutions → Type 0
 Fewer kept now = (id : MapId) → (kept_in now id ≡ kept_in kept id) ⊎ (kept_in now id ≡ None)
@@ -241,23 +245,23 @@ module _ (old : SessionState) (b : BlockPlace) (there : Option SourceValue) (now
     kept_or_fell : (c : BlockPlace) → (block_kept edited_to c ≡ block_kept old c) ⊎ ((block_kept edited_to c ≡ None) × HasMapIn edited_to fell c)
     kept_or_fell c = go (block_number old.tables c) refl
       where
-        abbrev kept_of_number : Resolutions → Option BlockId → Option Resolution
-        kept_of_number kept o = option_and_then (λ (n : BlockId). kept_in kept (block_map c.holder.krate n)) o
-
         gone : (n : BlockId) → block_number old.tables c ≡ Some n → kept_in now (block_map c.holder.krate n) ≡ None
             → (o : Option Resolution) → kept_in old.kept (block_map c.holder.krate n) ≡ o
             → (kept_in now (block_map c.holder.krate n) ≡ kept_in old.kept (block_map c.holder.krate n))
             ⊎ ((kept_in now (block_map c.holder.krate n) ≡ None) × HasMapIn edited_to fell c)
         gone n is none None was = inl (none ∙ sym was)
-        gone n is none (Some r) was = inr (none, record {
-          number = n;
-          numbered = is;
-          among = Contains-from_any {eq = eq_by_cmp map_order.ghosts.cmp} equal_id (block_map c.holder.krate n) fell
-              (listed (block_map c.holder.krate n) ∙ (λ i. is_some (was i) && not (is_some (none i))));
-        })
+        gone n is none (Some r) was = inr (
+          none,
+          record {
+            number = n;
+            numbered = is;
+            among = Contains-from_any {eq = eq_by_cmp map_order.ghosts.cmp} equal_id (block_map c.holder.krate n) fell
+                (listed (block_map c.holder.krate n) ∙ (λ i. is_some (was i) && not (is_some (none i))));
+          },
+        )
 
         go : (o : Option BlockId) → block_number old.tables c ≡ o
-            → (kept_of_number now o ≡ kept_of_number old.kept o) ⊎ ((kept_of_number now o ≡ None) × HasMapIn edited_to fell c)
+            → (kept_under c now o ≡ kept_under c old.kept o) ⊎ ((kept_under c now o ≡ None) × HasMapIn edited_to fell c)
         go None is = inl refl
         go (Some n) is = elim (fewer (block_map c.holder.krate n)) [
           | inl same ↦ inl same

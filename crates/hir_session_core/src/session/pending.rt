@@ -95,11 +95,7 @@ pub fn forget(
 fn list_if(alloc: Global, wanted: bool) -> Option<Vec<MapId>>
     ensures empty { IfSome result (λ list. list.items ≡ []) }
 {
-    if wanted {
-        Some(Vec::new(alloc))
-    } else {
-        None
-    }
+    if wanted { Some(Vec::new(alloc)) } else { None }
 }
 
 /// Drops what is kept of these places, and of what depends on them. Where a list is wanted and there is memory for it, it has the
