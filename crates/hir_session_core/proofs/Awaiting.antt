@@ -384,7 +384,7 @@ module _ (s : SessionState) (known new : List PendingBlock) (id : MapId) (rest :
         go (put on put_in) (inr fallen) = elim (left_or c fallen) [
           | inl left ↦ inr left
           | inr last ↦
-              let one : b ≡ c = one_value (sym is ∙ looked_at c last.0 last.1.0 last.1.1) in
+              let one : b ≡ c = one_value (sym is ∙ looked_at c last.0 last.1 last.2) in
               inl (subst (λ (ks : List PendingBlock). Contains ks (pending_of (place_of_block c))) (sym put_in)
               (subst (λ (x : BlockPlace). Contains (insert_key pending_cmp known (pending_of (place_of_block b))) (pending_of (place_of_block x))) one
               (inserted known (pending_of (place_of_block b)) (All-weaker (Contains known) IsOwn h.own known (All-contains_itself known)) refl)))
@@ -392,7 +392,7 @@ module _ (s : SessionState) (known new : List PendingBlock) (id : MapId) (rest :
         go (passed off same) (inr fallen) = elim (left_or c fallen) [
           | inl left ↦ inr left
           | inr last ↦
-              let one : b ≡ c = one_value (sym is ∙ looked_at c last.0 last.1.0 last.1.1) in
+              let one : b ≡ c = one_value (sym is ∙ looked_at c last.0 last.1 last.2) in
               absurd (off (subst (λ (x : BlockPlace). IsPendingAt s (place_of_block x)) (sym one) own_place))
         ]
 
@@ -430,7 +430,7 @@ module _ (s : SessionState) (known new : List PendingBlock) (id : MapId) (rest :
       | inl among ↦ inl among
       | inr fallen ↦ elim (left_or c fallen) [
         | inl left ↦ inr left
-        | inr last ↦ no_value (sym none ∙ looked_at c last.0 last.1.0 last.1.1)
+        | inr last ↦ no_value (sym none ∙ looked_at c last.0 last.1 last.2)
       ]
     ];
     own = h.own;
