@@ -4,9 +4,10 @@
 Usage: tools/check_schema.py [LINE_FILE]
 With a file it says of each of its lines that is no command which field is at fault, in one line. A line that begins with `# `
 is a label, behind which a session begins.
-Without one it checks the schema itself, over a diagnostic of each kind, and over the lines and replies of crates/hir_session_rows,
-crates/hir_session_main, crates/hir_wire_rows and examples. A line that is answered `command` must be refused by the schema or, where no schema can say it,
-by a rule below; any other that is JSON must be valid, and so must each reply. It prints one line for each disagreement.
+Without one it checks the schema itself, over a diagnostic of each kind, whole and broken, and over the lines and replies of
+crates/hir_session_rows, crates/hir_session_main, crates/hir_wire_rows and examples. A line that is answered `command` must be
+refused by the schema or, where no schema can say it, by a rule below; any other that is JSON must be valid, and so must each
+reply. It prints one line for each disagreement.
 Either way it ends with `N passed, M failed`, and with status 1 where something failed. It needs Debian's python3-jsonschema.
 """
 import json
