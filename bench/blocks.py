@@ -3,8 +3,8 @@
 thousand blocks; seconds of processor, the least of some runs.
 
 Usage, at the top of the repository: bench/blocks.py [INPUT [SIZE]..]. Without an input it takes each of them, at the
-sizes of INPUTS; then `edits` (blocks, of which 200 are edited one by one) and `session` (blocks). The program must be
-built: `rt run < /dev/null` in crates/hir_session_main.
+sizes of INPUTS; then `edits` (blocks, of which 200 are edited one by one), `edits_around` (of those that are edited
+each holds another) and `session` (blocks). The program must be built: `rt run < /dev/null` in crates/hir_session_main.
 """
 import sys
 
@@ -92,18 +92,25 @@ def seconds_of(made, n):
     return refresh(SESSION, [CRATES, *sets], at, path)
 
 
-def edits(n):
-    """Prints what an edit of one of n blocks takes, with the refresh behind it."""
-    sets, _, _ = of_one_module(n)
+def edits(n, inner=0):
+    """Prints what an edit of one of n blocks takes, with the refresh behind it. The edited ones hold so many blocks each."""
+    sets, _, _ = of_one_module(n - EDITS * inner)
     edited, made = [], Nodes()
     for k in range(EDITS):
-        at = [0, "m", block(k * n // EDITS)]
+        at = [0, "m", block(k * (n - EDITS * inner) // EDITS)]
+        sets += [set_block(at + [block(j)], made.struct("In"), made.use("self::T", f"I{j}")) for j in range(inner)]
         edited += [set_block(at, made.struct(f"U{k}"), made.use("self::T", "V")), {"do": "refresh"}]
     seconds, replies = best_parts(SESSION, [[CRATES, *sets], [{"do": "refresh"}], edited, [{"do": "status", "at": [0, "m"]}]], 3)
     refreshed = replies[len(sets) + 2:-1][1::2]
-    if len(refreshed) != EDITS or any(reply.count('"block"') != 1 or reply.count("[") != 3 for reply in refreshed):
-        sys.exit("an edit reached more or less than its block")
-    print(f"edits: one of {n} blocks, and a refresh: {1000 * seconds[2] / EDITS:.3f} ms; all of them at first: {seconds[1]:.3f} s", flush=True)
+    if len(refreshed) != EDITS or any(reply.count('"block"') != 1 + 2 * inner or reply.count("[") != 3 + 3 * inner for reply in refreshed):
+        sys.exit("an edit reached more or less than its block and those within it")
+    held = f" that holds {inner} more" if inner else ""
+    print(f"edits: one of {n} blocks{held}, and a refresh: {1000 * seconds[2] / EDITS:.3f} ms; all of them at first: {seconds[1]:.3f} s", flush=True)
+
+
+def edits_around(n):
+    """The same where each edited block holds another."""
+    edits(n, 1)
 
 
 def session(n):
@@ -129,7 +136,7 @@ def session(n):
 def main():
     wanted, sizes = sys.argv[1:2], [int(size) for size in sys.argv[2:]]
     double(INPUTS, seconds_of)
-    for made, usual in ((edits, [5000, 10000]), (session, [10000])):
+    for made, usual in ((edits, [5000, 10000]), (edits_around, [5000, 10000]), (session, [10000])):
         if not wanted or wanted[0] == made.__name__:
             for n in sizes or usual:
                 made(n)

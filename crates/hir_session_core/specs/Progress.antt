@@ -1,7 +1,9 @@
 -- How far has a refresh come? No public clause speaks of this.
-use Rattle.std.specs.Prelude.{◌≡◌, ⊤, ℕ, ◌<◌, Bool, cond, is_none, is_some, true, false, List, [], ◌∷◌, ◌++◌, length, Option, Some, None, Contains}
+use Rattle.std.specs.Prelude.{◌≡◌, ◌⊎◌, ⊤, ℕ, ◌<◌, Bool, cond, is_none, is_some, true, false, List, [], ◌∷◌, ◌++◌, length, Option, Some, None, Contains}
 use Rattle.std.specs.BTreeMap.{is_at}
 use Rattle.std.specs.BTreeSet.{BTreeSet, contains, insert_key}
+use Rattle.std.specs.declared.alloc.Global.{Global}
+use Rattle.std.specs.declared.vec.Vec.{Vec}
 use Rattle.hir_session_state.specs.HirBase.Place.{PlaceValue}
 use Rattle.hir_session_state.specs.HirIds.declared.ast_id.BlockId.{BlockId}
 use Rattle.hir_session_state.specs.HirBase.declared.place.BlockPlace.{BlockPlace}
@@ -10,10 +12,11 @@ use Rattle.hir_session_state.specs.HirIds.declared.ids.ModuleId.{ModuleId}
 use Rattle.hir_session_state.specs.HirDefMapRules.Overlay.{holders_under}
 use Rattle.hir_session_state.specs.HirDefMapRules.State.{crate_map, module_at}
 use Rattle.hir_session_state.specs.HirCollectorRules.Derivation.{CollectedValue}
+use Rattle.hir_session_state.specs.Askers.{has_fallen, is_one}
 use Rattle.hir_session_state.specs.Blocks.{nesting_of, place_of_block}
 use Rattle.hir_session_state.specs.Crates.{dependency_maps, id_of}
 use Rattle.hir_session_state.specs.Due.{IsDueBlock, IsNext, Resolved}
-use Rattle.hir_session_state.specs.Kept.{Resolution, held}
+use Rattle.hir_session_state.specs.Kept.{Resolution, Resolutions, held}
 use Rattle.hir_session_state.specs.SessionState.{SessionState, block_kept, finished_of, holder_maps, is_marked, kept_of, IsSound}
 use Rattle.hir_session_state.specs.Standing.{block_map, block_number, is_set, place_of_map}
 use Rattle.hir_session_core.specs.contracts.session.pending.PendingBlockOrd.TheImpl as pending_order
@@ -111,6 +114,35 @@ IsSettled block waits (Some old) (Some new) =
 pub data IsSifted (s : SessionState) (block : PendingBlock) (old new : List PendingBlock) : Type 0 where
   put : IsPendingAt s block.place → new ≡ insert_key pending_order.ghosts.cmp old block → IsSifted s block old new
   passed : ¬ IsPendingAt s block.place → new ≡ old → IsSifted s block old new
+
+-- a block that is one of some was looked at, where there is one
+abbrev pub IsSiftedAt : SessionState → Option BlockPlace → List PendingBlock → List PendingBlock → Type 0
+IsSiftedAt s None old new = new ≡ old
+IsSiftedAt s (Some b) old new = IsSifted s (pending_of (place_of_block b)) old new
+
+-- ---- places that fell
+
+-- a list, where there is one, has the places of which what was kept isn't any more
+abbrev pub AreFallen : Resolutions → Resolutions → Option (Vec MapId Global) → Type 0
+AreFallen old new None = ⊤
+AreFallen old new (Some fell) = (id : MapId) → is_one fell.items id ≡ has_fallen old new id
+
+-- the map of a block is one of some
+pub record HasMapIn (s : SessionState) (ids : List MapId) (b : BlockPlace) : Type 0 where
+  pub number : BlockId
+  pub numbered : block_number s.tables b ≡ Some number
+  pub among : Contains ids (block_map b.holder.krate number)
+
+-- each block that is set and of which nothing is kept is among them, or its map is one that fell; and nothing else is among them
+pub record ArePendingBut (s : SessionState) (pending : List PendingBlock) (fell : List MapId) : Type 0 where
+  pub all : (b : BlockPlace) → is_set s.sources.blocks b ≡ true → block_kept s b ≡ None → Contains pending (pending_of (place_of_block b)) ⊎ HasMapIn s fell b
+  pub own : (p : PendingBlock) → Contains pending p → p ≡ pending_of p.place
+  pub only : (p : PendingBlock) → Contains pending p → IsPendingAt s p.place
+
+abbrev pub AreKnownBut : SessionState → Known → Option (Vec MapId Global) → Type 0
+AreKnownBut s None fell = ⊤
+AreKnownBut s (Some pending) None = ⊤
+AreKnownBut s (Some pending) (Some fell) = ArePendingBut s pending.keys fell.items
 
 -- none of a list is due
 abbrev pub AreNotDue : SessionState → List PendingBlock → Type 0

@@ -5,6 +5,9 @@ use Rattle.std.proofs.Common.{◌∷◌, arith}
 use Rattle.std.specs.List.{count_by, list_any}
 use Rattle.std.specs.Option.{option_map}
 use Rattle.std.specs.BTreeMap.{is_at}
+use Rattle.std.specs.declared.alloc.Global.{Global}
+use Rattle.std.specs.declared.vec.Vec.{Vec}
+use Rattle.std.proofs.lemmas.List.Folds.{list_any-append}
 use Rattle.std.proofs.lemmas.List.Sums.{sum_by-cons}
 use Rattle.hir_collector_rules.specs.HirIds.declared.ids.MapId.{MapId}
 use Rattle.hir_collector_rules.specs.HirIds.contracts.ids.MapIdOrd.TheImpl as map_order
@@ -12,7 +15,7 @@ use Rattle.hir_collector_rules.specs.HirNameres.declared.world.finished.Finished
 use Rattle.hir_collector_rules.specs.HirNameres.Removal.{Depends, GainsRemoved, is_removed, refers_in as names_between}
 use Rattle.hir_collector_rules.specs.HirTables.Tables.{TablesValue}
 use Rattle.hir_collector_rules.specs.declared.source_database.Key.{Key}
-use Rattle.hir_session_state.specs.Askers.{AreDropped, HoldsExactly, asked_by, is_asked, is_asker, is_one}
+use Rattle.hir_session_state.specs.Askers.{AreDropped, HoldsExactly, Lengthens, ListsFallen, asked_by, has_fallen, is_asked, is_asker, is_one}
 use Rattle.hir_session_state.specs.Kept.{Resolution, asked_of, kept_in, names_in, resolution_at, resolutions_in}
 use Rattle.hir_session_state.specs.Types.{Askers, KeptRun, SourceNumber}
 use Rattle.hir_session_state.proofs.Entering.{and-true}
@@ -52,6 +55,27 @@ module _ (tables : TablesValue) (old new : Store) (runs runs' : Runs) (before af
   -- those are dropped whose maps fell
   is_fallen : (id : MapId) → is_one ids id ≡ is_removed old new id
   is_fallen id = any_counted (is_at (map_order.ghosts.cmp id)) ids (is_removed old new id) (gains id)
+
+  fallen_alike : (id : MapId) → has_fallen (resolutions_in old runs) (resolutions_in new runs') id ≡ is_removed old new id
+  fallen_alike id =
+      (λ i. is_some (kept_at old runs id i) && not (is_some (kept_at new runs' id i))) ∙ go (found_in old id) (found_in new id)
+    where
+      go : (o n : Option Finished)
+          → (is_some (option_map (λ (f : Finished). resolution_at f (run_in runs id)) o)
+          && not (is_some (option_map (λ (f : Finished). resolution_at f (run_in runs' id)) n))) ≡ (is_some o && not (is_some n))
+      go None n = refl
+      go (Some f) None = refl
+      go (Some f) (Some g) = refl
+
+  -- behind a list it has each place that fell
+  pub fallen_listed : (list longer : Option (Vec MapId Global)) → Lengthens list ids longer
+      → ListsFallen (resolutions_in old runs) (resolutions_in new runs') list longer
+  fallen_listed list None h = tt
+  fallen_listed None (Some longer) h = absurd h
+  fallen_listed (Some list) (Some longer) h = λ id.
+      ap (λ (xs : List MapId). is_one xs id) h
+      ∙ list_any-append (is_at (map_order.ghosts.cmp id)) list.items ids
+      ∙ ap (λ (b : Bool). is_one list.items id || b) (is_fallen id ∙ sym (fallen_alike id))
 
   same_run : (id : MapId) → found_in new id ≡ found_in old id → run_in runs' id ≡ run_in runs id
   same_run id stood =

@@ -5,7 +5,6 @@ use Rattle.std.proofs.Common.{◌∷◌, ◌⊎◌, inl, inr, length, get_or, ma
 use Rattle.std.specs.Option.{option_map}
 use Rattle.std.specs.BTreeMap.{BTreeMap, get, is_at, IsUnchanged}
 use Rattle.std.specs.Map.{keys_of as ids_of, lookup}
-use Rattle.std.proofs.lemmas.List.{length-map}
 use Rattle.hir_collector_rules.specs.HirIds.declared.ids.MapId.{MapId}
 use Rattle.hir_collector_rules.specs.HirIds.declared.ids.ModuleId.{ModuleId}
 use Rattle.hir_collector_rules.specs.HirIds.contracts.ids.MapIdOrd.TheImpl as map_order
@@ -84,20 +83,6 @@ kept_from maps runs id placed run is_placed is_run =
     (λ i. resolution_from (is_placed i) (is_run i))
     ∙ at_found (found_in maps id) (run_in runs id)
     ∙ sym (kept_at maps runs id)
-
--- ---- how many there are
-
-pub same_keys : (maps : Store) (runs : Runs) → ids_of (resolutions_in maps runs) ≡ ids_of maps.entries
-unfolding resolutions_in
-same_keys maps runs = go maps.entries
-  where
-    go : (es : List (MapId × Finished)) → ids_of (map (entry_with runs) es) ≡ ids_of es
-    go [] = refl
-    go (e ∷ es) = ap (λ (ids : List MapId). e.0 ∷ ids) (go es)
-
-pub same_count : (maps : Store) (runs : Runs) → length (resolutions_in maps runs) ≡ length maps.entries
-unfolding resolutions_in
-same_count maps runs = length-map maps.entries (entry_with runs)
 
 -- ---- none
 
@@ -296,7 +281,8 @@ module _ (old mid new : Resolutions) (ids : List MapId) (n : ℕ) (on : MapId) (
       go None s e = clash e refl
       go (Some r) s e = ap (λ (o : Option Resolution). names_of o other) (sym (there id r s) ∙ s) ∙ e
 
-  either : (id : MapId) → (kept_in new id ≡ kept_in mid id) ⊎ (kept_in new id ≡ None)
+  -- of each place what was kept still is, or nothing
+  pub either : (id : MapId) → (kept_in new id ≡ kept_in mid id) ⊎ (kept_in new id ≡ None)
   either id = go (kept_in new id) refl
     where
       go : (o : Option Resolution) → kept_in new id ≡ o → (kept_in new id ≡ kept_in mid id) ⊎ (kept_in new id ≡ None)

@@ -20,6 +20,7 @@ pub mod Entering
 pub mod Dropping
 pub mod Asking
 pub mod Falling
+pub mod Listing
 pub mod Counting
 pub use Rattle.hir_collector_rules.proofs as HirCollectorRules
 pub use Rattle.hir_collector_rules.proofs.HirCrateGraph as HirCrateGraph

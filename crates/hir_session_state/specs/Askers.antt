@@ -1,8 +1,10 @@
 -- Which places asked for which keys of a source? No public clause speaks of this.
-use Rattle.std.specs.Prelude.{◌≡◌, ◌&&◌, ◌||◌, Bool, false, cond, not, List, Option, None, Some}
+use Rattle.std.specs.Prelude.{◌≡◌, ⊤, ◌&&◌, ◌||◌, Bool, false, cond, not, is_some, List, ◌++◌, Option, None, Some}
 use Rattle.std.specs.List.{list_any}
 use Rattle.std.specs.BTreeMap.{BTreeMap, get, is_at}
 use Rattle.std.specs.BTreeSet.{BTreeSet, contains}
+use Rattle.std.specs.declared.alloc.Global.{Global}
+use Rattle.std.specs.declared.vec.Vec.{Vec}
 use Rattle.hir_collector_rules.specs.HirIds.declared.ids.MapId.{MapId}
 use Rattle.hir_collector_rules.specs.HirIds.contracts.ids.MapIdOrd.TheImpl as map_order
 use Rattle.hir_collector_rules.specs.HirTables.Tables.{TablesValue}
@@ -86,3 +88,19 @@ pub record AreDropped (tables : TablesValue) (ids : List MapId) (old : BTreeMap 
   pub runs : (id : MapId) → get map_order.ghosts.cmp new id ≡ cond (is_one ids id) None (get map_order.ghosts.cmp old id)
   pub askers : (number : SourceNumber) (key : Key) (id : MapId) → is_asker after number key id
       ≡ (is_asker before number key id && not (is_one ids id && is_asked tables (asked_of (get map_order.ghosts.cmp old id)) number key))
+
+-- whether what was kept of a place isn't any more
+abbrev pub has_fallen : Resolutions → Resolutions → MapId → Bool
+has_fallen old new id = is_some (kept_in old id) && not (is_some (kept_in new id))
+
+-- a list has these places behind what it had, if it still is one
+abbrev pub Lengthens : Option (Vec MapId Global) → List MapId → Option (Vec MapId Global) → Type 0
+Lengthens before more None = ⊤
+Lengthens None more (Some after) = ⊥
+Lengthens (Some before) more (Some after) = after.items ≡ before.items ++ more
+
+-- a list gains the places of which what was kept isn't any more, and no others, if it still is one
+abbrev pub ListsFallen : Resolutions → Resolutions → Option (Vec MapId Global) → Option (Vec MapId Global) → Type 0
+ListsFallen old new before None = ⊤
+ListsFallen old new None (Some after) = ⊥
+ListsFallen old new (Some before) (Some after) = (id : MapId) → is_one after.items id ≡ (is_one before.items id || has_fallen old new id)

@@ -1,7 +1,5 @@
 //! What is kept of the places that were resolved.
-ghost use Rattle.std.specs.Prelude.{◌≡◌, ◌≢◌, ◌↔◌, ◌+◌, ◌<◌, ◌≤◌, ◌^◌, [], IsTrue, true, false, None, Some, OnOk, OnErr, cond, is_some, length, option_map};
-ghost use Rattle.std.specs.List.Sorted.{IsStrictlySortedBy};
-ghost use Rattle.std.specs.Map.{keys_of as ids_of};
+ghost use Rattle.std.specs.Prelude.{◌≡◌, ◌≢◌, ◌+◌, ◌≤◌, [], true, false, None, Some, OnOk, OnErr, is_some, option_map};
 ghost use Rattle.std.specs.Option.{option_and_then};
 ghost use Rattle.std.specs.BTreeMap.{btree_map_len, get, is_at, IsUnchanged, Updates};
 ghost use Rattle.std.specs.Vec.{vec_capacity};
@@ -15,7 +13,7 @@ ghost use Rattle.hir_collector_rules.specs.Derivation.{collected_view};
 ghost use Rattle.hir_collector_rules.specs.HirNameres.World.{finished_in, placed_of};
 ghost use Rattle.hir_collector_rules.specs.declared.source_database.Key.{Key};
 ghost use Rattle.hir_session_state.specs.declared.source_number.SourceNumber.{SourceNumber as Number};
-ghost use Rattle.hir_session_state.specs.Askers.{is_asker, AreDropped, Enters, HoldsExactly, IsSame, Leaves};
+ghost use Rattle.hir_session_state.specs.Askers.{is_asker, AreDropped, Enters, HoldsExactly, IsSame, Leaves, Lengthens, ListsFallen};
 ghost use Rattle.hir_session_state.specs.Kept.{finished_by, held, kept_in, names_in, leftover_of, was_limited, asked_of, keys_of, resolution_from, resolution_of, AreForgotten};
 
 use crate::askers::Askers;
@@ -209,6 +207,25 @@ fn drop_runs(runs: &mut Runs, askers: &mut Askers, tables: &Tables, fallen: &mut
     }
 }
 
+/// A list with more places behind it; None where there is no memory for them.
+fn lengthened(mut list: Vec<MapId>, more: &Vec<MapId>) -> Option<Vec<MapId>>
+    ensures lengthened { Lengthens (Some list) more.now.items result }
+{
+    match list.extend_from_slice(more.as_slice()) {
+        Ok(()) => Some(list),
+        Err(_) => None,
+    }
+}
+
+/// Puts places on a list, where there is one. Without memory for them there is none any more.
+fn list_each(list: &mut Option<Vec<MapId>>, more: &Vec<MapId>)
+    ensures lengthened { Lengthens list.old more.now.items list.new }
+{
+    if let Some(known) = list.take() {
+        *list = lengthened(known, more);
+    }
+}
+
 impl Kept {
     /// Nothing kept of any place.
     pub fn new(alloc: Global) -> Kept
@@ -269,39 +286,46 @@ impl Kept {
         }
     }
 
-    /// Drops what is kept of a place, and of each that depends on it, and takes these out of those that asked for keys.
-    fn forget_one(&mut self, tables: &Tables, askers: &mut Askers, id: MapId)
+    /// Drops what is kept of a place, and of each that depends on it, takes these out of those that asked for keys, and lists
+    /// them.
+    fn forget_one(
+        &mut self,
+        tables: &Tables,
+        askers: &mut Askers,
+        id: MapId,
+        fell: &mut Option<Vec<MapId>>,
+    )
         requires exact { HoldsExactly tables.now self.old askers.old }
         ensures gone { (j : MapId) → Depends (names_in self.old) id j → kept_in self.new j ≡ None }
         ensures stay { (j : MapId) → ¬ Depends (names_in self.old) id j → kept_in self.new j ≡ kept_in self.old j }
         ensures exact { HoldsExactly tables.now self.new askers.new }
+        ensures listed { ListsFallen self.old self.new fell.old fell.new }
     {
         self.world.remove_with_dependents_into(id, &mut self.fallen);
+        list_each(fell, &self.fallen);
         drop_runs(&mut self.runs, askers, tables, &mut self.fallen);
     }
 
-    /// Drops what is kept of some places, and of each that depends on one of them, and takes these out of those that asked for
-    /// keys.
+    /// Drops what is kept of some places, and of each that depends on one of them, takes these out of those that asked for
+    /// keys, and puts them on a list where there is one.
     ///
-    /// It takes no memory. Its cost grows with the maps that go, what these name and the keys for which their runs asked, and
-    /// hardly with those that stay.
-    pub fn forget(&mut self, tables: &Tables, askers: &mut Askers, ids: &Vec<MapId>)
+    /// It takes no memory but for that list, which is given up where there is none. Its cost grows with the maps that go, what
+    /// these name and the keys for which their runs asked, and hardly with those that stay.
+    pub fn forget(
+        &mut self,
+        tables: &Tables,
+        askers: &mut Askers,
+        ids: &Vec<MapId>,
+        fell: &mut Option<Vec<MapId>>,
+    )
         requires exact { HoldsExactly tables.now self.old askers.old }
         ensures forgotten { AreForgotten self.old ids.now.items self.new }
         ensures exact { HoldsExactly tables.now self.new askers.new }
+        ensures listed { ListsFallen self.old self.new fell.old fell.new }
     {
         for id in ids {
-            self.forget_one(tables, askers, *id);
+            self.forget_one(tables, askers, *id, fell);
         }
-    }
-
-    /// Of how many places something is kept.
-    fn len(&self) -> usize
-        ensures value { result ≡ length self.now }
-        ensures small { result < 2 ^ 63 }
-        ensures sorted { IsStrictlySortedBy map_order.ghosts.cmp (ids_of self.now) }
-    {
-        self.world.maps.len()
     }
 
     /// Whether something is kept of a place, where there is one.
@@ -313,35 +337,4 @@ impl Kept {
             None => false,
         }
     }
-
-    /// The same; whether of every other place than this one what was kept still is.
-    ///
-    /// It counts what is kept, so it costs no more than `forget`.
-    pub fn forget_around(
-        &mut self,
-        tables: &Tables,
-        askers: &mut Askers,
-        own: Option<MapId>,
-        ids: &Vec<MapId>,
-    ) -> bool
-        requires exact { HoldsExactly tables.now self.old askers.old }
-        ensures forgotten { AreForgotten self.old ids.now.items self.new }
-        ensures alone { IsTrue result ↔ ((id : MapId) → Some id ≢ own → kept_in self.new id ≡ kept_in self.old id) }
-        ensures exact { HoldsExactly tables.now self.new askers.new }
-    {
-        let before = self.len();
-        let had = self.has(own);
-        self.forget(tables, askers, ids);
-        let has = self.has(own);
-        is_as_many(before, has, self.len(), had)
-    }
-}
-
-/// Whether a count and another are the same, each with one more where that is to be counted.
-fn is_as_many(a: usize, one_more_a: bool, b: usize, one_more_b: bool) -> bool
-    requires small_a { a < 2 ^ 63 }
-    requires small_b { b < 2 ^ 63 }
-    ensures value { IsTrue result ↔ (a + cond one_more_a 1 0 ≡ b + cond one_more_b 1 0) }
-{
-    a + one_more_a as usize == b + one_more_b as usize
 }

@@ -9,7 +9,7 @@ ghost use Rattle.hir_session_state.specs.SourceEdits.{edited, of_block};
 ghost use Rattle.hir_session_state.specs.Standing.{block_map, block_number};
 ghost use Rattle.hir_session_core.specs.BlockVerdicts.{told_with_steps};
 
-use super::pending::{PendingBlock, forget_block, settle};
+use super::pending::{PendingBlock, forget_listing, settle};
 use super::{Session, check_source};
 use hir_base::ids::MapId;
 use hir_base::place::BlockPlace;
@@ -91,16 +91,18 @@ impl Session {
         let one = PendingBlock::new(alloc, &block)?;
         let own = self.block_id(&block);
         self.inputs.set_block(block, source)?;
-        forget_block(
+        let mut known = self.pending.take();
+        let fell = forget_listing(
+            alloc,
             &self.tables,
             &mut self.kept,
             &mut self.askers,
-            &mut self.pending,
-            own,
             &hits,
+            known.is_some(),
         );
         let is_kept = self.kept.has(own);
-        settle(&mut self.pending, one, !is_kept);
+        settle(&mut known, one, !is_kept);
+        self.await_fallen(alloc, known, fell);
         Ok(())
     }
 
@@ -121,17 +123,18 @@ impl Session {
             edit,
         )?;
         let one = PendingBlock::new(alloc, block)?;
-        let own = self.block_id(block);
         self.inputs.remove_block(block)?;
-        forget_block(
+        let mut known = self.pending.take();
+        let fell = forget_listing(
+            alloc,
             &self.tables,
             &mut self.kept,
             &mut self.askers,
-            &mut self.pending,
-            own,
             &hits,
+            known.is_some(),
         );
-        settle(&mut self.pending, one, false);
+        settle(&mut known, one, false);
+        self.await_fallen(alloc, known, fell);
         Ok(())
     }
 

@@ -1,11 +1,13 @@
 //! Blocks that wait to be resolved.
-ghost use Rattle.std.specs.Prelude.{◌≡◌, ◌≢◌, ◌⊎◌, true, false, IfOk, IfSome, OnOk, None, Some, is_none, length};
+ghost use Rattle.std.specs.Prelude.{◌≡◌, ◌⊎◌, true, false, IfOk, IfSome, OnOk, None, Some, is_none, length, []};
+ghost use Rattle.std.specs.Option.{option_and_then, option_copied};
 ghost use Rattle.hir_session_state.specs.HirIds.declared.ids.MapId.{MapId};
+ghost use Rattle.hir_session_state.specs.HirTables.Tables.{block_at};
 ghost use Rattle.hir_session_state.specs.Askers.{HoldsExactly};
 ghost use Rattle.hir_session_state.specs.Blocks.{place_of_block};
 ghost use Rattle.hir_session_state.specs.Kept.{kept_in, AreForgotten};
 ghost use Rattle.hir_session_state.specs.SessionState.{block_kept, is_marked, IsSound};
-ghost use Rattle.hir_session_core.specs.Progress.{pending_of, with_pending, ArePending, HasAllPending, IsPendingAt, IsSettled, IsSifted};
+ghost use Rattle.hir_session_core.specs.Progress.{pending_of, with_pending, AreFallen, AreKnownBut, ArePending, ArePendingBut, HasAllPending, IsPendingAt, IsSettled, IsSifted, IsSiftedAt};
 
 use super::Session;
 use hir_base::ids::MapId;
@@ -85,30 +87,35 @@ pub fn forget(
         return;
     }
     *pending = None;
-    kept.forget(tables, askers, hits);
+    let mut unlisted = None;
+    kept.forget(tables, askers, hits, &mut unlisted);
 }
 
-/// The same after an edit of a block. Where of every other place what was kept still is, the other blocks that wait are known
-/// still.
-pub fn forget_block(
+/// An empty list, where one is wanted.
+fn list_if(alloc: Global, wanted: bool) -> Option<Vec<MapId>>
+    ensures empty { IfSome result (λ list. list.items ≡ []) }
+{
+    if wanted { Some(Vec::new(alloc)) } else { None }
+}
+
+/// Drops what is kept of these places, and of what depends on them. Where a list is wanted and there is memory for it, it has the
+/// places that fell.
+pub fn forget_listing(
+    alloc: Global,
     tables: &Tables,
     kept: &mut Kept,
     askers: &mut Askers,
-    pending: &mut Option<BTreeSet<PendingBlock>>,
-    own: Option<MapId>,
     hits: &Vec<MapId>,
-)
+    wanted: bool,
+) -> Option<Vec<MapId>>
     requires exact { HoldsExactly tables.now kept.old askers.old }
     ensures forgotten { AreForgotten kept.old hits.now.items kept.new }
     ensures exact { HoldsExactly tables.now kept.new askers.new }
-    ensures known { ((id : MapId) → Some id ≢ own → kept_in kept.new id ≡ kept_in kept.old id) → pending.new ≡ pending.old }
-    ensures pending { (pending.new ≡ None)
-        ⊎ ((pending.new ≡ pending.old) × ((id : MapId) → Some id ≢ own → kept_in kept.new id ≡ kept_in kept.old id)) }
+    ensures fell { AreFallen kept.old kept.new result }
 {
-    if kept.forget_around(tables, askers, own, hits) {
-        return;
-    }
-    *pending = None;
+    let mut fell = list_if(alloc, wanted);
+    kept.forget(tables, askers, hits, &mut fell);
+    fell
 }
 
 impl Session {
@@ -214,11 +221,75 @@ impl Session {
         Ok(left)
     }
 
+    /// The block whose map has an id.
+    fn block_of(&self, id: MapId) -> Option<&BlockPlace>
+        ensures value { option_copied result ≡ option_and_then (block_at self.now.tables) id.block }
+    {
+        match id.block {
+            Some(number) => self.tables.block(number),
+            None => None,
+        }
+    }
+
+    /// Puts the block whose map has an id among those that are left, if it waits.
+    fn sift_at(
+        &self,
+        alloc: Global,
+        left: &mut BTreeSet<PendingBlock>,
+        id: MapId,
+    ) -> Result<(), AllocError>
+        ensures ok { OnOk result (IsSiftedAt self.now (option_and_then (block_at self.now.tables) id.block) left.old.keys left.new.keys) }
+    {
+        match self.block_of(id) {
+            Some(block) => {
+                let one = PendingBlock::new(alloc, block)?;
+                self.sift(left, one)
+            }
+            None => Ok(()),
+        }
+    }
+
+    /// The blocks that wait, where all of them are known but those of places that fell.
+    fn with_fallen(
+        &self,
+        alloc: Global,
+        known: BTreeSet<PendingBlock>,
+        mut fell: Vec<MapId>,
+    ) -> Result<BTreeSet<PendingBlock>, AllocError>
+        requires but { ArePendingBut self.now known.keys fell.items }
+        ensures pending { IfOk result (λ all. ArePending self.now all.keys) }
+    {
+        let mut all = known;
+        'next: while let Some(id) = fell.pop() {
+            self.sift_at(alloc, &mut all, id)?;
+        }
+        Ok(all)
+    }
+
     /// From now on these are the blocks that wait.
     pub(super) fn await_blocks(&mut self, pending: BTreeSet<PendingBlock>)
         requires pending { ArePending self.old pending.keys }
         ensures same { self.new ≡ self.old }
     {
         self.pending = Some(pending);
+    }
+
+    /// From now on the blocks wait that are known to, and those of places that fell. Where either isn't known, or there is no
+    /// memory for them, it isn't known which wait.
+    pub(super) fn await_fallen(
+        &mut self,
+        alloc: Global,
+        known: Option<BTreeSet<PendingBlock>>,
+        fell: Option<Vec<MapId>>,
+    )
+        requires but { AreKnownBut self.old known fell }
+        ensures same { self.new ≡ self.old }
+    {
+        let (Some(known), Some(fell)) = (known, fell) else {
+            return;
+        };
+        if let Ok(all) = self.with_fallen(alloc, known, fell) {
+            self.await_blocks(all);
+        }
     }
 }

@@ -1,8 +1,7 @@
 -- It was found which runs asked for something that is altered, and nothing is kept of what depends on those.
-use Rattle.std.proofs.Common.{◌∙◌, ap, sym, None, option_map}
-use Rattle.hir_session_state.specs.SessionState.{SessionState, state_of}
+use Rattle.std.proofs.Common.{None}
+use Rattle.hir_session_state.specs.SessionState.{state_of}
 use Rattle.hir_session_state.specs.SourceEdits.{of_block}
-use Rattle.hir_session_state.specs.Standing.{block_map, block_number}
 use Rattle.hir_session_core.proofs.Awaiting.{known_removed}
 use Rattle.hir_session_core.proofs.Sound.{edited_sound, edited_becomes}
 use Rattle.hir_session_core.proofs.session.Session.drop_block.Goals as goal
@@ -10,22 +9,26 @@ use Rattle.hir_session_core.proofs.session.Session.drop_block.Goals as goal
 pub invariant_of-self : goal.invariant_of-self
 invariant_of-self c = rw c.in_err-remove_block.ensures.err c.self.invariant
 
-pub invariant_of-self-2 : goal.invariant_of-self-2
-invariant_of-self-2 c =
+-- it is known which blocks wait but for those of the places that fell
+pub await_fallen-requires : goal.await_fallen-requires
+await_fallen-requires c =
     let old = state_of c.self.inside.inputs c.self.inside.tables c.self.inside.kept in
-    let block = c.args.block.now in
-    let own = c.block_id-own.ensures.value ∙ ap (λ (t : SessionState). option_map (block_map block.holder.krate) (block_number t.tables block))
-    (sym c.self.view_is) in (
-      rw c.in_ok-remove_block.ensures.ok (edited_sound _ (of_block block None) _ _ c.self.invariant.0 (c.in_ok-hits.ensures.hit _ c.self.invariant.1)
-          c.forget_block.ensures.forgotten),
-      c.forget_block.ensures.exact,
-      rw c.in_ok-remove_block.ensures.ok (known_removed old block c.block_id-own.result own c.forget_block.new.kept c.self.inside.pending
-          c.forget_block.new.pending c.settle.new.pending c.in_ok-one.one c.in_ok-one.ensures.value c.forget_block.ensures.pending c.settle.ensures.settled
-          c.self.invariant.2),
-    )
+    record {
+      but = rw c.in_ok-remove_block.ensures.ok (known_removed old c.args.block.now c.forget_listing-fell.new.kept c.self.inside.pending
+          c.settle.new.pending c.forget_listing-fell.result c.in_ok-one.one c.in_ok-one.ensures.value c.forget_listing-fell.ensures.fell
+          c.forget_listing-fell.ensures.forgotten.fewer c.settle.ensures.settled c.self.invariant.2);
+    }
+
+pub invariant_of-self-2 : goal.invariant_of-self-2
+invariant_of-self-2 c = (
+  rw c.in_ok-remove_block.ensures.ok (edited_sound _ (of_block c.args.block.now None) _ _ c.self.invariant.0 (c.in_ok-hits.ensures.hit _ c.self.invariant.1)
+      c.forget_listing-fell.ensures.forgotten),
+  c.forget_listing-fell.ensures.exact,
+  tt,
+)
 
 pub returns-clause-ok : goal.returns-clause-ok
 returns-clause-ok c =
     rw c.in_ok-remove_block.ensures.ok (edited_becomes _ (of_block c.args.block.now None) _ _ _ c.self.view_is c.self.invariant.0
     (c.in_ok-hits.ensures.hit _ c.self.invariant.1)
-    c.forget_block.ensures.forgotten)
+    c.forget_listing-fell.ensures.forgotten)

@@ -11,22 +11,28 @@ use Rattle.hir_session_core.proofs.session.Session.keep_block.Goals as goal
 pub invariant_of-self : goal.invariant_of-self
 invariant_of-self c = rw c.in_err-set_block.ensures.err c.self.invariant
 
-pub invariant_of-self-2 : goal.invariant_of-self-2
-invariant_of-self-2 c =
+-- it is known which blocks wait but for those of the places that fell
+pub await_fallen-requires : goal.await_fallen-requires
+await_fallen-requires c =
     let old = state_of c.self.inside.inputs c.self.inside.tables c.self.inside.kept in
     let block = c.args.block in
     let own = c.block_id-own.ensures.value ∙ ap (λ (t : SessionState). option_map (block_map block.holder.krate) (block_number t.tables block))
-    (sym c.self.view_is) in (
-      rw c.in_ok-set_block.ensures.ok (edited_sound _ (of_block block (Some (source_view c.args.source))) _ _ c.self.invariant.0
-          (c.in_ok-hits.ensures.hit _ c.self.invariant.1)
-          c.forget_block.ensures.forgotten),
-      c.forget_block.ensures.exact,
-      rw c.in_ok-set_block.ensures.ok (known_set old block c.block_id-own.result own (source_view c.args.source) c.forget_block.new.kept c.self.inside.pending
-          c.forget_block.new.pending c.settle.new.pending c.in_ok-one.one c.has-is_kept.result c.in_ok-one.ensures.value c.forget_block.ensures.pending
-          c.has-is_kept.ensures.value c.settle.ensures.settled c.self.invariant.2),
-    )
+    (sym c.self.view_is) in record {
+      but = rw c.in_ok-set_block.ensures.ok (known_set old block c.block_id-own.result own (source_view c.args.source) c.forget_listing-fell.new.kept
+          c.self.inside.pending c.settle.new.pending c.forget_listing-fell.result c.in_ok-one.one c.has-is_kept.result c.in_ok-one.ensures.value
+          c.forget_listing-fell.ensures.fell c.forget_listing-fell.ensures.forgotten.fewer c.has-is_kept.ensures.value c.settle.ensures.settled
+          c.self.invariant.2);
+    }
+
+pub invariant_of-self-2 : goal.invariant_of-self-2
+invariant_of-self-2 c = (
+  rw c.in_ok-set_block.ensures.ok (edited_sound _ (of_block c.args.block (Some (source_view c.args.source))) _ _ c.self.invariant.0
+      (c.in_ok-hits.ensures.hit _ c.self.invariant.1) c.forget_listing-fell.ensures.forgotten),
+  c.forget_listing-fell.ensures.exact,
+  tt,
+)
 
 pub returns-clause-ok : goal.returns-clause-ok
 returns-clause-ok c =
     rw c.in_ok-set_block.ensures.ok (edited_becomes _ (of_block c.args.block (Some (source_view c.args.source))) _ _ _ c.self.view_is c.self.invariant.0
-    (c.in_ok-hits.ensures.hit _ c.self.invariant.1) c.forget_block.ensures.forgotten)
+    (c.in_ok-hits.ensures.hit _ c.self.invariant.1) c.forget_listing-fell.ensures.forgotten)
