@@ -183,11 +183,11 @@ fn makro() -> MacroId {
     })
 }
 
-/// The map of a crate in which the macro is in textual scope, and calls may be 3 deep.
-fn map(alloc: Global) -> Result<DefMap, Fail> {
+/// The map of a crate in which the macro is in textual scope, and calls may be so deep.
+fn map(alloc: Global, limit: u32) -> Result<DefMap, Fail> {
     let crates = Rc::new(alloc, CrateSet::new(alloc))?;
     let mut top = DefMapCrateData::new(alloc, Edition::Edition2021, crates);
-    top.set_recursion_limit(3);
+    top.set_recursion_limit(limit);
     let definition = EditionedFileId {
         file_id: FileId(0),
         edition: Edition::Edition2021,
@@ -347,7 +347,7 @@ fn answers(rt: &impl Abort, alloc: Global, map: &DefMap, row: &Row) -> Result<()
 /// A list is that of the source that writes it, with what its calls expand to, and a call keeps its number.
 #[test]
 fn lists_as_they_are_written(rt: HostRuntime) -> Result<(), Fail> {
-    let map = map(rt.alloc())?;
+    let map = map(rt.alloc(), 3)?;
     for row in &ROWS {
         answers(&rt, rt.alloc(), &map, row)?;
     }
@@ -369,7 +369,7 @@ const IN_TURN: [(usize, &str); 3] = [
 #[test]
 fn lists_as_they_are_now(rt: HostRuntime) -> Result<(), Fail> {
     let alloc = rt.alloc();
-    let map = map(alloc)?;
+    let map = map(alloc, 3)?;
     let mut tables = tables(alloc)?;
     for (number, wanted) in &IN_TURN {
         let row = ROWS.get(*number).ok_or("a row")?;
@@ -397,11 +397,37 @@ fn key(alloc: Global) -> Result<ExpansionKey, Fail> {
 #[test]
 fn key_of_a_call(rt: HostRuntime) -> Result<(), Fail> {
     let alloc = rt.alloc();
-    let map = map(alloc)?;
+    let map = map(alloc, 3)?;
     let mut tables = tables(alloc)?;
     let row = ROWS.first().ok_or("a row")?;
     assert!(rt; tables.entry_number(&key(alloc)?).is_none());
     answer(alloc, &map, &mut tables, row)?;
     assert!(rt; tables.entry_number(&key(alloc)?).is_some());
+    Ok(())
+}
+
+/// How deep calls may be in the next test: the frames of as many calls of a function would fill some megabytes.
+const DEEP: u32 = 20_000;
+
+/// Asks for a list whose call expands to itself.
+fn asked_deep(alloc: Global) -> Result<(TraitItems, DefDiagnostics), Fail> {
+    let map = map(alloc, DEEP)?;
+    let world = World::new(alloc);
+    let maps = DefMaps::new(WorldPart::all(&world), &map);
+    let local = LocalDefMap::empty(alloc);
+    let mut lists = Lists::of_file(alloc, CALLS)?;
+    lists.set_expansion(alloc, ITSELF)?;
+    let mut tables = tables(alloc)?;
+    let id = TraitId { loc: loc(2) };
+    Ok(TraitItems::query_with_diagnostics(alloc, &mut lists, maps, &local, &mut tables, id)?)
+}
+
+/// Calls in one another take none of the stack, however deep they may be.
+#[test]
+fn calls_of_a_great_depth(rt: HostRuntime) -> Result<(), Fail> {
+    let (found, told) = asked_deep(rt.alloc())?;
+    assert!(rt; found.macro_calls.len() == DEEP as usize);
+    assert!(rt; found.items.len() == DEEP as usize + 2);
+    assert!(rt; told.iter().next().is_none());
     Ok(())
 }
