@@ -4,9 +4,10 @@
 Usage: tools/check_schema.py [LINE_FILE]
 With a file it says of each of its lines that is no command which field is at fault, in one line. A line that begins with `# `
 is a label, behind which a session begins.
-Without one it checks the schema itself, over the lines and replies of crates/hir_session_rows, crates/hir_session_main,
-crates/hir_wire_rows and examples. A line that is answered `command` must be refused by the schema or, where no schema can say it,
-by a rule below; any other that is JSON must be valid, and so must each reply. It prints one line for each disagreement.
+Without one it checks the schema itself, over a diagnostic of each kind, whole and broken, and over the lines and replies of
+crates/hir_session_rows, crates/hir_session_main, crates/hir_wire_rows and examples. A line that is answered `command` must be
+refused by the schema or, where no schema can say it, by a rule below; any other that is JSON must be valid, and so must each
+reply. It prints one line for each disagreement.
 Either way it ends with `N passed, M failed`, and with status 1 where something failed. It needs Debian's python3-jsonschema.
 """
 import json
@@ -31,7 +32,22 @@ ANSWERS = {
 }
 # replies of hir_wire_rows that no session gives
 UNGIVEN = ("answer", "list", "refuse")
-NEVER_MADE = "macro def error"
+# a diagnostic of each kind, as docs/PROTOCOL.md lays it out; no session gives a `macro def error`
+ROOT, LIB = {"crate": 0, "kind": "CrateRoot"}, ["lib.rs"]
+DIAGNOSTICS = [
+    {"candidates": ["a.rs", "a/mod.rs"], "item": {"id": [1, 0], "in": LIB, "kind": "Module"}, "kind": "unresolved module", "module": ROOT},
+    {"item": {"id": [1, 0], "in": LIB, "kind": "ExternCrate"}, "kind": "unresolved extern crate", "module": ROOT},
+    {"item": {"id": [2, 0], "in": LIB, "kind": "Use"}, "kind": "unresolved import", "module": ROOT, "place": 0},
+    {"cfg": "x", "item": {"id": [1, 0], "in": LIB, "kind": "Fn"}, "kind": "unconfigured code", "module": ROOT},
+    {"call": {"id": [1, 0], "in": LIB, "kind": "MacroCall"}, "kind": "unresolved macro call", "module": ROOT, "path": "foo"},
+    {"item": {"id": [1, 0], "in": LIB, "kind": "MacroRules"}, "kind": "unimplemented builtin macro", "module": ROOT},
+    {"attr": 0, "item": {"id": [1, 0], "in": LIB, "kind": "Fn"}, "kind": "invalid derive target", "module": ROOT},
+    {"attr": 0, "item": {"id": [1, 0], "in": LIB, "kind": "Struct"}, "kind": "malformed derive", "module": ROOT},
+    {"item": {"id": [1, 0], "in": LIB, "kind": "MacroDef"}, "kind": "macro def error", "message": "no rules", "module": ROOT},
+    {"error": "absent", "item": {"id": [1, 0], "in": LIB, "kind": "MacroCall"}, "kind": "macro error", "module": ROOT, "path": "foo"},
+]
+# those that can't be of an impl
+OF_ONE_KIND = ("unresolved module", "unresolved extern crate", "unresolved import", "unimplemented builtin macro", "macro def error")
 
 
 class Unreadable(Exception):
@@ -320,6 +336,11 @@ class Checker:
             self.reply(reply, command, spot)
             begun = begun or command == "crates" and refusal is None
 
+    def broken_reply(self, value, where):
+        """Checks that a reply which has not the form is refused."""
+        self.answered += 1
+        self.count(f"the schema takes {short(value)}" if self.replies.is_valid(value) else None, where)
+
     def end(self):
         print(f"{self.passed} passed, {self.failed} failed")
         return 1 if self.failed else 0
@@ -393,12 +414,34 @@ def check_wire_rows(checker):
             spot = f"{where}, line {number}"
             if word != b"refuse":
                 checker.line(line, refusals.get(output), None, spot)
-            if output.startswith(b"{") and word.decode() not in UNGIVEN and NEVER_MADE.encode() not in output:
+            if output.startswith(b"{") and word.decode() not in UNGIVEN:
                 checker.reply(output, None, spot)
+
+
+def check_diagnostics(checker):
+    """The schema takes each kind of diagnostic as it is laid out and no other kind, and refuses each that is broken."""
+    kinds = [diagnostic["kind"] for diagnostic in DIAGNOSTICS]
+    known = checker.commands.schema["$defs"]["reply"]["$defs"]["diagnostic"]["properties"]["kind"]["enum"]
+    checker.count(None if sorted(kinds) == sorted(known) else "the kinds are others", "diagnostics of the schema")
+    for diagnostic in DIAGNOSTICS:
+        kind = diagnostic["kind"]
+        checker.reply(json.dumps({"ok": [diagnostic]}).encode(), "diagnostics", f"diagnostic {kind}")
+        broken = {"a further field": {**diagnostic, "more": None}}
+        for field in diagnostic:
+            broken[f"{field} left out"] = {name: value for name, value in diagnostic.items() if name != field}
+            broken[f"{field} null"] = {**diagnostic, field: None}
+        for other in kinds:
+            if set(DIAGNOSTICS[kinds.index(other)]) != set(diagnostic):
+                broken[f"the kind {other}"] = {**diagnostic, "kind": other}
+        if kind in OF_ONE_KIND:
+            broken["an impl"] = {**diagnostic, "item": {**diagnostic["item"], "kind": "Impl"}}
+        for what, value in broken.items():
+            checker.broken_reply({"ok": [value]}, f"diagnostic {kind}, {what}")
 
 
 def check_all():
     checker = Checker()
+    check_diagnostics(checker)
     check_sessions(checker, CRATES / "hir_session_rows/stdin", CRATES / "hir_session_rows/stdout")
     check_sessions(checker, CRATES / "hir_session_main/stdin", CRATES / "hir_session_main/stdout")
     check_wire_rows(checker)

@@ -698,14 +698,17 @@ def main():
     sys.setrecursionlimit(100000)
     if options.rows:
         return compare_rows()
+    lists = random_sessions.Lists()
     written, kinds = [], {"edits": Edits, "data": Data, "attributes": Attributes, "globs": Globs, "blocks": Blocks}
     kind = next((kind for kind in kinds if vars(options)[kind]), None)
     for seed in range(options.seed, options.seed + options.sessions):
         lines = lines_of(Session(seed, options.macros, options.calls) if kind is None else kinds[kind](seed))
         if options.write:
             written.append((seed, *lines))
-        elif not compare(options.program, seed, *lines):
+            continue
+        if not compare(options.program, seed, *lines):
             return 1
+        lists.add([json.loads(command) for command in lines[0]], lines[1])
     if options.write:
         kind = kind or ("calls" if options.calls else None)
         label = "# drawn: " + (kind + " of " if kind else "") + "seed %d"
@@ -714,7 +717,7 @@ def main():
                 commands_file.write("\n".join([label % seed] + commands) + "\n")
                 answers_file.write("\n".join([label % seed] + answers) + "\n")
     else:
-        print("%d sessions answered as the model does" % options.sessions)
+        print("%d sessions answered as the model does; %s" % (options.sessions, lists))
     return 0
 
 

@@ -92,7 +92,7 @@ class Faults:
         self.tell(label, (child.wait(), words), (1, "write fault\n"))
 
     def other_ends(self):
-        """Pipes that don't block, a socket, files that are opened the other way round, and a file at its limit of size."""
+        """Pipes that don't block, a socket, files that are opened the other way round, and a limit on the size of files."""
         read, write = (1, "read fault\n"), (1, "write fault\n")
 
         def run(given, output, before=None):
@@ -131,6 +131,17 @@ class Faults:
                 file.seek(0)
                 found, wanted = (done.returncode, (done.stderr or b"").decode(), file.read()), (1, "write fault\n" if done.stderr else "", front)
                 self.tell("output that is a file at its limit" + ("" if words["stderr"] != file else ", and standard error too"), found, wanted)
+            with open(REPLIES, "rb") as replies:
+                replies = replies.read()
+            whole = ("a file that stays below its limit", len(replies) + 1, file), ("a file that ends at its limit", len(replies), file)
+            for label, limit, output in (*whole, ("a pipe, with a limit of 0 on files", 0, subprocess.PIPE)):
+                session.seek(0)
+                file.seek(0)
+                file.truncate()
+                how = lambda: resource.setrlimit(resource.RLIMIT_FSIZE, (limit, limit))
+                done = subprocess.run([self.program], stdin=session, stdout=output, stderr=subprocess.PIPE, preexec_fn=how)
+                file.seek(0)
+                self.tell(f"output that is {label}", (done.returncode, done.stderr.decode(), done.stdout or file.read()), (0, "", replies))
         ours, its = socket.socketpair()
         with ours, its:
             ours.sendall(b"{}\n{}")

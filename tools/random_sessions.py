@@ -9,8 +9,8 @@ A session has one to four crates, each with a root file, and module files that a
 another, also where nothing holds them, all with imports, globs, macros, calls, traits and impls, and a table of expansions. Files, blocks and
 expansions are set, changed, removed and refreshed some times, and crates get other editions, attributes, options and dependencies, or
 what they have, or what is refused. At its end all is refreshed, and a list of paths is asked at each crate and each block, with its
-status, its dump and the items of traits and impls, and the diagnostics of each crate. A second session is handed the crates, sources and
-expansions of that moment at once, and asked the same. It ends with 1 at the first session whose answers differ, which it writes
+status, its dump and the items of traits and impls, and the diagnostics of each crate; besides, the items of traits and impls that are
+written. A second session is handed the crates, sources and expansions of that moment at once, and asked the same. It ends with 1 at the first session whose answers differ, which it writes
 to standard error.
 """
 import argparse
@@ -130,12 +130,13 @@ class Crates:
         return [variant]
 
     def held(self):
-        """What a trait or an impl holds."""
+        """What a trait or an impl holds, or a call in one expands to."""
         found = []
-        for _ in range(self.random.randint(0, 4)):
-            kind = self.choose(["Fn", "Const", "TypeAlias", "MacroCall", "MacroCall"])
+        for _ in range(self.random.randint(0, 5)):
+            kind = self.choose(["Fn", "Const", "TypeAlias"] + 2 * ["MacroCall"] * (not self.expansion or self.calls > 0))
             fields = {"name": self.choose(NAMES)}
             if kind == "MacroCall":
+                self.calls -= self.expansion
                 fields = {"path": self.choose(MACROS) if self.random.random() < 0.8 else self.path(), "input": self.choose(INPUTS)}
             elif kind == "Const" and self.random.random() < 0.2:
                 fields = {}
@@ -163,7 +164,7 @@ class Crates:
     def unit(self, file):
         self.next_id = 0
         self.leaf, self.expansion, self.calls = file == LEAF, False, 0 if file == LEAF else 6
-        first = [self.makro() for _ in range(self.random.randint(0, 2))]
+        first = [self.makro() for _ in range(self.random.randint(0, 3))]
         unit = {"nodes": first + self.items(0) + (self.items(0) if self.calls else [])}
         if file in ("c0.rs", "c1.rs") and self.random.random() < 0.5:
             unit["nodes"].append(self.prelude())
@@ -196,7 +197,8 @@ class Crates:
         """What a key may expand to, with its error."""
         self.next_id = 0
         self.leaf, self.expansion, self.calls = False, True, 2
-        unit = {"nodes": self.items(2)} if self.random.random() < 0.95 else "broken"
+        of_list = self.random.random() < 0.5
+        unit = {"nodes": self.held() if of_list else self.items(2)} if self.random.random() < 0.95 else "broken"
         return unit, "e" if self.random.random() < 0.1 else None
 
     def crates(self, count):
@@ -227,6 +229,30 @@ class Crates:
         below = [other for other in range(number) if self.random.random() < 0.6]
         names = [f"d{place}" if self.random.random() < 0.8 else self.choose(["core", "std", "d0"]) for place in range(len(below))]
         return [{"crate": other, "name": name, "prelude": self.random.random() < 0.7} for name, other in zip(names, below)]
+
+
+def modules_in(at, unit, files, directory):
+    """The modules that a unit writes, itself first, each with its place and its nodes; those in files that the unit declares too."""
+    if not isinstance(unit, dict):
+        return
+    yield at, unit["nodes"]
+    for node in unit["nodes"]:
+        if node["kind"] == "Module" and len(at) < 6:
+            inner = f"{directory}{node['name']}"
+            found = node if "nodes" in node else files.get(inner + ".rs", files.get(inner + "/mod.rs"))
+            yield from modules_in(at + [node["name"]], found, files, inner + "/")
+
+
+def lists_in(crates, files, blocks):
+    """The modules that hold traits or impls: each with its place, the names of its traits, and how many impls it has."""
+    tops = [([number], files.get(krate["root"])) for number, krate in enumerate(crates)] + [(json.loads(place), unit) for place, unit in blocks.items()]
+    found = []
+    for at, nodes in (module for place, unit in tops for module in modules_in(place, unit, files, "")):
+        traits = [node["name"] for node in nodes if node["kind"] == "Trait"]
+        impls = sum(node["kind"] == "Impl" for node in nodes)
+        if traits or impls:
+            found.append((at, traits, impls))
+    return found
 
 
 def edited(unit, drawn, another):
@@ -325,9 +351,22 @@ def edit_of_crates(crates, drawn):
 
 def asks_of_items(at, drawn):
     """What is asked of traits and impls at a place."""
-    paths = [drawn.choose(NAMES) for _ in range(4)] + [drawn.path()]
-    asks = [{"do": "trait items", "at": at, "path": path} for path in paths]
+    asks = [{"do": "trait items", "at": at, "path": path} for path in [drawn.choose(NAMES), drawn.path()]]
     return asks + [{"do": "impl items", "at": at, "impl": number} for number in range(2)]
+
+
+def asks_of_lists(lists, drawn):
+    """What is asked of some traits and impls that are written, and of an impl behind the last."""
+    asks = []
+    for at, traits, impls in drawn.random.sample(lists, min(12, len(lists))):
+        where, names = (at[:1], "crate::" + "::".join(at[1:] + [""])) if drawn.random.random() < 0.3 and is_path(at[1:]) else (at, "")
+        asks += [{"do": "trait items", "at": where, "path": names + name} for name in traits]
+        asks += [{"do": "impl items", "at": at, "impl": number} for number in range(impls + (drawn.random.random() < 0.2))]
+    return asks
+
+
+def is_path(names):
+    return all(isinstance(name, str) for name in names)
 
 
 def asks_of_block(place, drawn):
@@ -344,6 +383,10 @@ def session(seed):
     drawn = Crates(seed)
     crates = drawn.crates(drawn.random.randint(1, 4))
     files, blocks, entries, commands = {}, {}, {}, [{"do": "crates", "crates": copy.deepcopy(crates)}]
+    for key in [(number, number, text, given) for number in range(len(crates)) for text in TEXTS for given in INPUTS]:
+        if drawn.random.random() < 0.7:
+            entries[key] = drawn.expansion_of()
+            commands.append(entry(key, entries[key]))
     for _ in range(drawn.random.randint(10, 36)):
         roll = drawn.random.random()
         if roll < 0.3:
@@ -359,6 +402,7 @@ def session(seed):
             commands += asks_of_block(drawn.choose(list(blocks)), drawn)[-4:]
         if drawn.random.random() < 0.2:
             commands += asks_of_items([drawn.random.randrange(len(crates))], drawn)
+            commands += asks_of_lists(lists_in(crates, files, blocks), drawn)
         if drawn.random.random() < 0.5:
             commands.append({"do": "refresh"})
     asks = []
@@ -371,6 +415,7 @@ def session(seed):
             asks += asks_of_items(at, drawn)
     for place in list(blocks) + [drawn.block_place(len(crates), blocks)]:
         asks += asks_of_block(place, drawn)
+    asks += asks_of_lists(lists_in(crates, files, blocks), drawn)
     fresh = [{"do": "crates", "crates": crates}] + [{"do": "set file", "file": file, "unit": unit} for file, unit in files.items()]
     fresh += [{"do": "set block", "at": json.loads(place), "unit": unit} for place, unit in blocks.items()]
     fresh += [entry(key, found) for key, found in entries.items()]
@@ -387,6 +432,27 @@ def replies(program, commands):
     return done.stdout.decode().splitlines()
 
 
+class Lists:
+    """How many lists of traits and impls were asked for, how many there were, and how many of those had calls, and calls in calls."""
+
+    def __init__(self):
+        self.asked = self.given = self.called = self.nested = 0
+
+    def add(self, commands, replies):
+        for command, reply in zip(commands, replies):
+            if command["do"] not in ("trait items", "impl items"):
+                continue
+            self.asked += 1
+            found = json.loads(reply).get("ok")
+            if found is not None:
+                self.given += 1
+                self.called += bool(found["calls"])
+                self.nested += any(len(call["in"]) > 1 for call in found["calls"])
+
+    def __str__(self):
+        return f"{self.asked} lists of traits and impls asked for, {self.given} given, {self.called} with calls, {self.nested} with calls in expansions"
+
+
 def main():
     parser = argparse.ArgumentParser(description=__doc__.split("\n")[0])
     parser.add_argument("--sessions", type=int, default=200)
@@ -394,7 +460,7 @@ def main():
     parser.add_argument("--program", default="crates/hir_session_main/out/hir_session_main")
     parser.add_argument("--print", action="store_true")
     given = parser.parse_args()
-    asked = found = 0
+    asked, found, lists = 0, 0, Lists()
     for seed in range(given.seed, given.seed + given.sessions):
         after_edits, fresh, count = session(seed)
         if given.print:
@@ -407,10 +473,11 @@ def main():
                 if left != right:
                     sys.stderr.write(f"{json.dumps(command)}\n  after edits {left}\n  fresh       {right}\n")
             sys.exit(1)
+        lists.add(after_edits, one)
         asked += count
         found += sum('"ok"' in reply and reply != '{"ok":{"macros":null,"stop":null,"types":null,"values":null}}' for reply in one[-count:])
     if not given.print:
-        print(f"{given.sessions} sessions, {asked} questions asked twice, {found} of them reached something; no difference")
+        print(f"{given.sessions} sessions, {asked} questions asked twice, {found} of them reached something; {lists}; no difference")
 
 
 if __name__ == "__main__":

@@ -4,6 +4,9 @@ import posixpath
 from model.crate import KINDS, Block, Crate, Item, place_text
 from model.syntax import collect, dump, kept_attributes, parse_path, plain_attribute, plain_condition
 
+# kinds of items without a visibility
+WITHOUT_VISIBILITY = ("Impl", "ExternBlock", "MacroCall", "MacroRules")
+
 
 class Workspace:
     """What a session is handed in, and the maps of the crates and blocks that aren't stale."""
@@ -68,7 +71,7 @@ class Workspace:
         for node in nodes:
             left = {name: value for name, value in node.items() if name not in ("body", "variants", "text", "input", "items")}
             left["attrs"] = kept_attributes(node.get("attrs", []), options)
-            left.setdefault("vis", None)
+            left["vis"] = None if node["kind"] in WITHOUT_VISIBILITY else node.get("vis")
             if "nodes" in left:
                 left["nodes"] = self.kept(left["nodes"], options)
             found.append(left)

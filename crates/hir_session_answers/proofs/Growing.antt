@@ -56,10 +56,10 @@ use Rattle.hir_session_answers.specs.SourceItems.{visibility_source}
 use Rattle.hir_session_state.proofs.Truth.{clash}
 
 -- what was there stays
-abbrev Stays : {X : Type 0} → Option X → Option X → Type 0
+abbrev pub Stays : {X : Type 0} → Option X → Option X → Type 0
 Stays one other = (one ≡ None) ⊎ (other ≡ one)
 
-mapped : {X Y : Type 0} (f : X → Y) (one other : Option X) → Stays one other → Stays (option_map f one) (option_map f other)
+pub mapped : {X Y : Type 0} (f : X → Y) (one other : Option X) → Stays one other → Stays (option_map f one) (option_map f other)
 mapped f one other (inl none) = inl (ap (option_map f) none)
 mapped f one other (inr same) = inr (ap (option_map f) same)
 
@@ -116,7 +116,7 @@ module _ (few more : TablesValue) (keeps : KeepsTables few more) where
       go None s next = inl (ap (option_and_then (inside few)) s)
       go (Some call) s next = stays call s (next (call_node call.kind).file_id (call_node call.kind).block)
 
-  source_stays : (file : HirFileId) (block : Option BlockId) → Stays (source_of few file block) (source_of more file block)
+  pub source_stays : (file : HirFileId) (block : Option BlockId) → Stays (source_of few file block) (source_of more file block)
   source_stays file block = within_stays (most_calls file) file block
 
   item_stays : (krate : Crate) (kind : SourceKind) (file : HirFileId) (block : Option BlockId) (id : SyntaxId) → Stays (item_of few krate kind file block id)
@@ -153,7 +153,7 @@ module _ (few more : TablesValue) (keeps : KeepsTables few more) where
   maybe_stays f g stays (Some i) = mapped (λ held. Some held) (f i) (g i) (stays i)
 
   module _ (maps : Maps) where
-    module_stays : (m : ModuleId) → Stays (module_definition few maps m) (module_definition more maps m)
+    pub module_stays : (m : ModuleId) → Stays (module_definition few maps m) (module_definition more maps m)
     module_stays m = go (module_in maps m)
       where
         go : (o : Option ModuleValue) → Stays (option_and_then (λ (v : ModuleValue). module_by few m.map.krate v.origin) o)
@@ -178,20 +178,20 @@ module _ (few more : TablesValue) (keeps : KeepsTables few more) where
     def_stays (def.BuiltinType b) = inr refl
     def_stays (def.MacroId i) = macro_stays i
 
-    type_stays : (i : Item ModuleDefId ImportOrExternCrate) → Stays (answered_type few maps i) (answered_type more maps i)
+    pub type_stays : (i : Item ModuleDefId ImportOrExternCrate) → Stays (answered_type few maps i) (answered_type more maps i)
     type_stays i = all _ _ _ _ _ _ (def_stays i.def) (maybe_stays (import_source few) (import_source more) import_stays i.import) (visibility_stays i.vis)
 
-    value_stays : (i : Item ModuleDefId ImportOrGlob) → Stays (answered_value few maps i) (answered_value more maps i)
+    pub value_stays : (i : Item ModuleDefId ImportOrGlob) → Stays (answered_value few maps i) (answered_value more maps i)
     value_stays i =
         all _ _ _ _ _ _ (def_stays i.def) (maybe_stays (value_import_source few) (value_import_source more) value_import_stays i.import)
         (visibility_stays i.vis)
 
-    macro_item_stays : (i : Item MacroId ImportOrExternCrate) → Stays (answered_macro few maps i) (answered_macro more maps i)
+    pub macro_item_stays : (i : Item MacroId ImportOrExternCrate) → Stays (answered_macro few maps i) (answered_macro more maps i)
     macro_item_stays i =
         all _ _ _ _ _ _ (macro_stays i.def) (maybe_stays (import_source few) (import_source more) import_stays i.import) (visibility_stays i.vis)
 
     -- what isn't left out stays
-    not_left_out : {I : Type 0} (f g : I → Option AnswerItem) → ((i : I) → Stays (f i) (g i)) → (o : Option I) → is_some (option_and_then f o) ≡ is_some o
+    pub not_left_out : {I : Type 0} (f g : I → Option AnswerItem) → ((i : I) → Stays (f i) (g i)) → (o : Option I) → is_some (option_and_then f o) ≡ is_some o
         → option_and_then g o ≡ option_and_then f o
     not_left_out f g stays None there = refl
     not_left_out f g stays (Some i) there = elim (stays i) [

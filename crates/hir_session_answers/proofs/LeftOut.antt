@@ -388,7 +388,7 @@ module _ (tables : TablesValue) (placed : AreCallsPlaced tables) where
       go (Some call) e h next = of_call call e next
 
   -- so each tree that has a number is held by something
-  numbered_there : (id : TreeId) → IsSome (source_of_tree tables id) → is_some (source_of tables id.file id.block) ≡ true
+  pub numbered_there : (id : TreeId) → IsSome (source_of_tree tables id) → is_some (source_of tables id.file id.block) ≡ true
   numbered_there id means = numbered_within (most_calls id.file) id.file id.block (λ none. omega arith) means
 
 -- a tree that the run for a current place asked for is of a file or a block, or of what a call expands to

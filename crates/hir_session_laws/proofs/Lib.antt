@@ -6,5 +6,4 @@ pub mod NamesGrowing
 pub mod KeptNames
 pub mod Numbering
 pub mod WrittenImpls
-pub mod NumberedSources
 pub mod ListsTold

@@ -103,8 +103,8 @@ use Rattle.hir_session_machine.proofs.HirSessionState.HirDefCollectorLaws.Ended.
 use Rattle.hir_session_laws.specs.Laws.{ImplModulesAreThere, ImplsAreToldAlike, ImplsAreToldWhole, IsModuleThere, IsToldWhole, TraitsAreToldAlike}
 use Rattle.hir_session_laws.specs.Laws.{TraitsAreToldWhole}
 use Rattle.hir_session_laws.proofs.KeptSources.{begins_clear, bound, is_clear, maps_clear, read_clear, start_reads}
-use Rattle.hir_session_laws.proofs.NamesGrowing.{Stays, mapped, module_stays, source_stays}
-use Rattle.hir_session_laws.proofs.NumberedSources.{numbered_there}
+use Rattle.hir_session_machine.proofs.HirSessionAnswers.Growing.{Stays, mapped, module_stays, source_stays}
+use Rattle.hir_session_machine.proofs.HirSessionAnswers.LeftOut.{numbered_there}
 use Rattle.hir_session_laws.proofs.UnnamedTraits.{AllKeys}
 use Rattle.hir_session_laws.proofs.WrittenImpls.{AreImplsOwn, IsImplOf, ends_own}
 

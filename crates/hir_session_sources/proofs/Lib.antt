@@ -6,6 +6,6 @@ pub mod Lookups
 pub mod Expansions
 pub mod BlockLemmas
 pub mod SourceLemmas
+pub mod CrateEntries
 pub mod TreeLemmas
-pub mod Forgetting
 pub mod Changing

@@ -1,5 +1,6 @@
 pub mod BlockPlaces
 pub mod BlockTables
 pub mod BlockCodes
+pub mod ByCrate
 pub mod EditValues
 pub mod SourceTrees

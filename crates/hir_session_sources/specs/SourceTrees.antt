@@ -1,5 +1,5 @@
 -- What does a session keep of its sources beside them? No public clause speaks of this.
-use Rattle.std.specs.Prelude.{◌≡◌, nat_eq, Bool, false, ◌&&◌, is_some, List, Option, Some, None, option_map, if◌then◌else◌}
+use Rattle.std.specs.Prelude.{◌≡◌, ℕ, nat_eq, Bool, false, ◌&&◌, is_some, List, Option, Some, None, option_map, if◌then◌else◌}
 use Rattle.std.specs.Option.{option_and_then}
 use Rattle.std.specs.BTreeMap.{BTreeMap, get, is_at}
 use Rattle.std.specs.Cmp.Lexicographic.{slice_cmp}
@@ -19,6 +19,7 @@ use Rattle.hir_session_state.specs.HirCollectorRules.Workspace.{Workspace}
 use Rattle.hir_session_state.specs.Crates.{CrateValue}
 use Rattle.hir_session_state.specs.Entries.{by_value, expansion_cmp}
 use Rattle.hir_session_state.specs.SourceTable.{tree_under}
+use Rattle.hir_session_sources.specs.ByCrate.{ByCrate, entries_under}
 use Rattle.hir_session_sources.specs.declared.source_trees.SourceTrees.{SourceTrees}
 
 -- what one source has under crates, by crate
@@ -29,18 +30,23 @@ CrateTrees = BTreeMap Crate (Rc SourceTreeValue Global)
 abbrev pub tree_by : CrateTrees → Crate → Option SourceTreeValue
 tree_by trees krate = option_map (λ t. t.value) (get crate_order.ghosts.cmp trees krate)
 
--- whether something is kept under a crate
-abbrev pub is_under : CrateTrees → Crate → Bool
-is_under trees krate = is_some (get crate_order.ghosts.cmp trees krate)
+-- what a file has under a crate
+abbrev pub file_tree : BTreeMap (List ℕ) CrateTrees → List ℕ → Crate → Option SourceTreeValue
+file_tree files path krate = option_and_then (λ kept. tree_by kept krate) (lookup (is_at (slice_cmp nat_cmp path)) files.entries)
 
--- what is kept of the source at a place under a crate: of a block what it has under its own, and of an expansion what it has under
--- the crate that calls
+-- whether a crate lists a file
+abbrev pub is_listed : {V : Type 0} → ByCrate (List ℕ) V → List ℕ → Crate → Bool
+is_listed paths path krate = is_some (lookup (is_at (slice_cmp nat_cmp path)) (entries_under paths krate))
+
+-- what is kept of the source at a place under a crate: of a file what it has under one that lists it, of a block what it has under
+-- its own, and of an expansion what it has under the crate that calls
 abbrev pub tree_in : SourceTrees → SourcePlaceValue → Crate → Option SourceTreeValue
-tree_in trees (file path) krate = option_and_then (λ kept. tree_by kept krate) (lookup (is_at (slice_cmp nat_cmp path)) trees.by_path.entries)
+tree_in trees (file path) krate = if is_listed trees.paths path krate then file_tree trees.by_path path krate else None
 tree_in trees (block place) krate =
-    if nat_eq place.holder.krate.0 krate.0 then option_map (λ t. t.value) (lookup (is_at (block_order.ghosts.cmp place)) trees.by_block.entries) else None
+    if nat_eq place.holder.krate.0 krate.0 then option_map (λ t. t.value) (lookup (is_at (block_order.ghosts.cmp place)) (entries_under trees.by_block krate))
+    else None
 tree_in trees (expansion key) krate =
-    if nat_eq key.caller.0 krate.0 then option_map (λ t. t.value) (lookup (is_at (expansion_cmp key)) (by_value trees.by_key.entries)) else None
+    if nat_eq key.caller.0 krate.0 then option_map (λ t. t.value) (lookup (is_at (expansion_cmp key)) (by_value (entries_under trees.by_key krate))) else None
 
 -- whether something that is kept of a place under a crate is found at this place under this crate
 abbrev pub is_kept_at : SourcePlaceValue → Crate → SourcePlaceValue → Crate → Bool

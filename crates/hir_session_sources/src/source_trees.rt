@@ -1,12 +1,11 @@
 //! What sources have under the crates that asked for them.
 //!
-//! It is kept by the place of a source, and then by crate. A run hands in the place and has the tables for itself, so no
-//! number is at hand by which `Trees` would find it. A block is asked for under its own crate, and an expansion under the crate
-//! that calls; what they have under others is made anew.
-ghost use Rattle.std.specs.Prelude.{◌≡◌, nat_eq, None, Some, IfOk, OnOk, OnErr, filter, not, option_map, if◌then◌else◌, false};
+//! It is kept by the place of a source. A run hands in the place and has the tables for itself, so no number is at hand by which
+//! `Trees` would find it. A block is asked for under its own crate, and an expansion under the crate that calls; what they have
+//! under others is made anew.
+ghost use Rattle.std.specs.Prelude.{◌≡◌, ℕ, List, None, Some, IfOk, OnOk, OnErr, option_map, if◌then◌else◌, false};
+ghost use Rattle.std.specs.BTreeMap.{is_at};
 ghost use Rattle.std.specs.Cmp.Lexicographic.{slice_cmp};
-ghost use Rattle.std.specs.List.Sorted.{IsStrictlySortedBy};
-ghost use Rattle.std.specs.Map.{keys_of};
 ghost use Rattle.std.specs.Ordering.{nat_cmp};
 ghost use Rattle.hir_session_state.specs.HirIds.declared.ids.Crate.{Crate};
 ghost use Rattle.hir_session_state.specs.HirBase.CfgOptions.{is_set};
@@ -14,8 +13,9 @@ ghost use Rattle.hir_session_state.specs.HirItemTree.Source.{source_view};
 ghost use Rattle.hir_session_state.specs.HirItemTree.SourceTree.{SourceTreeValue, source_tree_of};
 ghost use Rattle.hir_session_state.specs.HirTables.SourcePlaces.{SourcePlaceValue, block, expansion, expansion_value, file, source_value};
 ghost use Rattle.hir_session_state.specs.SourceTable.{front_in, tree_under};
-ghost use Rattle.hir_session_sources.specs.SourceTrees.{is_kept_at, is_place, is_under, tree_by, tree_in};
+ghost use Rattle.hir_session_sources.specs.SourceTrees.{file_tree, is_kept_at, is_listed, is_place, tree_by, tree_in};
 
+use crate::by_crate::{get_under, insert_under, remove_crate, remove_under};
 use crate::copied_key::copied_key;
 use crate::crate_info::CrateInfo;
 use crate::crates::Crates;
@@ -34,12 +34,19 @@ use std::rc::Rc;
 /// What one source has under crates.
 pub type CrateTrees = BTreeMap<Crate, Rc<SourceTree>>;
 
+/// What each file has under crates.
+type FileTrees = BTreeMap<FilePath, CrateTrees>;
+
 /// What each file has under each crate that asked for it, each block under its own, and each expansion under the crate that calls.
+///
+/// What a file has stands by file, since an edit of the file replaces it under all crates; it counts as kept under the crates
+/// that list the file. All else stands by crate, since an edit of a crate's data drops what is kept under that crate.
 #[derive(Drop)]
 pub struct SourceTrees {
     by_path: BTreeMap<FilePath, BTreeMap<Crate, Rc<SourceTree>>>,
-    by_block: BTreeMap<BlockPlace, Rc<SourceTree>>,
-    by_key: BTreeMap<ExpansionKey, Rc<SourceTree>>,
+    paths: BTreeMap<Crate, BTreeMap<FilePath, ()>>,
+    by_block: BTreeMap<Crate, BTreeMap<BlockPlace, Rc<SourceTree>>>,
+    by_key: BTreeMap<Crate, BTreeMap<ExpansionKey, Rc<SourceTree>>>,
 }
 
 /// The same place; no text is copied.
@@ -52,26 +59,62 @@ pub fn copied_place(place: &BlockPlace) -> Result<BlockPlace, AllocError>
     })
 }
 
-/// Drops what files have that have something under a crate.
-fn forget_files(files: &mut BTreeMap<FilePath, CrateTrees>, krate: Crate)
-    ensures value { files.new.entries ≡ filter (λ e. not (is_under e.1 krate)) files.old.entries }
-    ensures sorted { IsStrictlySortedBy (slice_cmp nat_cmp) (keys_of files.old.entries) }
+/// Has a file have this under a crate.
+fn set_tree(
+    files: &mut FileTrees,
+    alloc: Global,
+    path: &FilePath,
+    krate: Crate,
+    tree: Rc<SourceTree>,
+) -> Result<(), AllocError>
+    ensures ok { OnOk result ((p : List ℕ) (c : Crate) → file_tree files.new p c
+        ≡ (if is_kept_at (file path.now) krate (file p) c then Some tree.value else file_tree files.old p c)) }
+    ensures err { OnErr result ((p : List ℕ) (c : Crate) → file_tree files.new p c ≡ file_tree files.old p c) }
 {
-    files.retain(|_, kept| !kept.contains_key(&krate));
+    match files.get_mut(path) {
+        Some(kept) => {
+            kept.insert(krate, tree)?;
+            Ok(())
+        }
+        None => {
+            let mut kept = BTreeMap::new(alloc);
+            kept.insert(krate, tree)?;
+            files.insert(path.clone()?, kept)?;
+            Ok(())
+        }
+    }
 }
 
-/// Drops what blocks of a crate have.
-fn forget_blocks(blocks: &mut BTreeMap<BlockPlace, Rc<SourceTree>>, krate: Crate)
-    ensures value { blocks.new.entries ≡ filter (λ e. not (nat_eq e.0.holder.krate.0 krate.0)) blocks.old.entries }
+/// Drops what a file has under a crate.
+fn drop_tree(files: &mut FileTrees, path: &FilePath, krate: Crate)
+    ensures left { (p : List ℕ) (c : Crate) (t : SourceTreeValue) → file_tree files.new p c ≡ Some t → file_tree files.old p c ≡ Some t }
 {
-    blocks.retain(|place, _| place.holder.krate() != krate);
+    match files.get_mut(path) {
+        Some(kept) => {
+            kept.remove(&krate);
+        }
+        None => {}
+    }
 }
 
-/// Drops what expansions have whose macros a crate calls.
-fn forget_expansions(expansions: &mut BTreeMap<ExpansionKey, Rc<SourceTree>>, krate: Crate)
-    ensures value { expansions.new.entries ≡ filter (λ e. not (nat_eq e.0.caller.0 krate.0)) expansions.old.entries }
+/// Drops what these files have under a crate.
+fn drop_trees(files: &mut FileTrees, paths: &BTreeMap<FilePath, ()>, krate: Crate)
+    ensures left { (p : List ℕ) (c : Crate) (t : SourceTreeValue) → file_tree files.new p c ≡ Some t → file_tree files.old p c ≡ Some t }
 {
-    expansions.retain(|key, _| key.caller != krate);
+    for path in paths.keys() {
+        drop_tree(files, path, krate);
+    }
+}
+
+/// Puts these in place of what a file has under crates, where it has something.
+fn replace_trees(files: &mut FileTrees, path: &FilePath, trees: CrateTrees)
+    ensures here { (c : Crate) (t : SourceTreeValue) → file_tree files.new path.now c ≡ Some t → tree_by trees c ≡ Some t }
+    ensures others { (p : List ℕ) (c : Crate) → is_at (slice_cmp nat_cmp path.now) p ≡ false → file_tree files.new p c ≡ file_tree files.old p c }
+{
+    match files.get_mut(path) {
+        Some(kept) => *kept = trees,
+        None => {}
+    }
 }
 
 impl SourceTrees {
@@ -80,14 +123,28 @@ impl SourceTrees {
     {
         SourceTrees {
             by_path: BTreeMap::new(alloc),
+            paths: BTreeMap::new(alloc),
             by_block: BTreeMap::new(alloc),
             by_key: BTreeMap::new(alloc),
+        }
+    }
+
+    /// Whether a crate lists a file.
+    fn is_listed(&self, path: &FilePath, krate: Crate) -> bool
+        ensures value { result ≡ is_listed self.now.paths path.now krate }
+    {
+        match self.paths.get(&krate) {
+            Some(listed) => listed.contains_key(path),
+            None => false,
         }
     }
 
     fn of_file(&self, path: &FilePath, krate: Crate) -> Option<&Rc<SourceTree>>
         ensures value { option_map (λ t. t.now.value) result ≡ tree_in self.now (file path.now) krate }
     {
+        if !self.is_listed(path, krate) {
+            return None;
+        }
         match self.by_path.get(path) {
             Some(kept) => kept.get(&krate),
             None => None,
@@ -98,7 +155,7 @@ impl SourceTrees {
         ensures value { option_map (λ t. t.now.value) result ≡ tree_in self.now (block place.now) krate }
     {
         if place.holder.krate() == krate {
-            self.by_block.get(place)
+            get_under(&self.by_block, krate, place)
         } else {
             None
         }
@@ -108,7 +165,7 @@ impl SourceTrees {
         ensures value { option_map (λ t. t.now.value) result ≡ tree_in self.now (expansion (expansion_value key.now)) krate }
     {
         if key.caller == krate {
-            self.by_key.get(key)
+            get_under(&self.by_key, krate, key)
         } else {
             None
         }
@@ -136,22 +193,17 @@ impl SourceTrees {
             ≡ (if is_kept_at (file path.now) krate p c then Some tree.value else tree_in self.old p c)) }
         ensures err { OnErr result ((p : SourcePlaceValue) (c : Crate) → tree_in self.new p c ≡ tree_in self.old p c) }
     {
-        match self.by_path.get_mut(path) {
-            Some(kept) => {
-                kept.insert(krate, tree)?;
-                Ok(())
-            }
-            None => {
-                let mut kept = BTreeMap::new(alloc);
-                kept.insert(krate, tree)?;
-                self.by_path.insert(path.clone()?, kept)?;
-                Ok(())
-            }
+        if self.is_listed(path, krate) {
+            return set_tree(&mut self.by_path, alloc, path, krate, tree);
         }
+        set_tree(&mut self.by_path, alloc, path, krate, tree)?;
+        let listed = path.clone()?;
+        insert_under(&mut self.paths, alloc, krate, listed, ())
     }
 
     fn set_of_block(
         &mut self,
+        alloc: Global,
         place: &BlockPlace,
         krate: Crate,
         tree: Rc<SourceTree>,
@@ -162,7 +214,7 @@ impl SourceTrees {
     {
         if place.holder.krate() == krate {
             let place = copied_place(place)?;
-            self.by_block.insert(place, tree)?;
+            insert_under(&mut self.by_block, alloc, krate, place, tree)?;
         }
         Ok(())
     }
@@ -180,7 +232,7 @@ impl SourceTrees {
     {
         if key.caller == krate {
             let key = copied_key(alloc, key)?;
-            self.by_key.insert(key, tree)?;
+            insert_under(&mut self.by_key, alloc, krate, key, tree)?;
         }
         Ok(())
     }
@@ -199,7 +251,7 @@ impl SourceTrees {
     {
         match place {
             SourcePlace::File(path) => self.set_of_file(alloc, path, krate, tree),
-            SourcePlace::Block(place) => self.set_of_block(place, krate, tree),
+            SourcePlace::Block(place) => self.set_of_block(alloc, place, krate, tree),
             SourcePlace::Expansion(key) => self.set_of_expansion(alloc, key, krate, tree),
         }
     }
@@ -209,10 +261,7 @@ impl SourceTrees {
         ensures here { (c : Crate) (t : SourceTreeValue) → tree_in self.new (file path.now) c ≡ Some t → tree_by trees c ≡ Some t }
         ensures others { (p : SourcePlaceValue) (c : Crate) → is_place (file path.now) p ≡ false → tree_in self.new p c ≡ tree_in self.old p c }
     {
-        match self.by_path.get_mut(path) {
-            Some(kept) => *kept = trees,
-            None => {}
-        }
+        replace_trees(&mut self.by_path, path, trees);
     }
 
     /// Drops what is kept of a block.
@@ -220,17 +269,20 @@ impl SourceTrees {
         ensures gone { (c : Crate) → tree_in self.new (block place.now) c ≡ None }
         ensures others { (p : SourcePlaceValue) (c : Crate) → is_place (block place.now) p ≡ false → tree_in self.new p c ≡ tree_in self.old p c }
     {
-        self.by_block.remove(place);
+        remove_under(&mut self.by_block, place.holder.krate(), place);
     }
 
-    /// Drops what is kept of sources under a crate; of a file that has something under it, what it has under others too.
+    /// Drops what is kept of sources under a crate.
     pub fn forget_crate(&mut self, krate: Crate)
         ensures gone { (place : SourcePlaceValue) → tree_in self.new place krate ≡ None }
         ensures kept { (place : SourcePlaceValue) (c : Crate) (t : SourceTreeValue) → tree_in self.new place c ≡ Some t → tree_in self.old place c ≡ Some t }
     {
-        forget_files(&mut self.by_path, krate);
-        forget_blocks(&mut self.by_block, krate);
-        forget_expansions(&mut self.by_key, krate);
+        match remove_crate(&mut self.paths, krate) {
+            Some(paths) => drop_trees(&mut self.by_path, &paths, krate),
+            None => {}
+        }
+        remove_crate(&mut self.by_block, krate);
+        remove_crate(&mut self.by_key, krate);
     }
 
     /// Drops what is kept of an expansion.
@@ -238,7 +290,7 @@ impl SourceTrees {
         ensures gone { (c : Crate) → tree_in self.new (expansion (expansion_value key.now)) c ≡ None }
         ensures others { (p : SourcePlaceValue) (c : Crate) → is_place (expansion (expansion_value key.now)) p ≡ false → tree_in self.new p c ≡ tree_in self.old p c }
     {
-        self.by_key.remove(key);
+        remove_under(&mut self.by_key, key.caller, key);
     }
 }
 

@@ -75,7 +75,8 @@ pub record HasOverlongRun (s : SessionState) : Type 0 where
   pub next : IsNext s place
   pub stuck : IsStuckAt s place
 
--- what stands behind a place: the place, what it depends on, and so on
+-- what stands behind a place: the place, what it depends on, and so on; a crate's dependencies are those of the state, which are those that its kept map was
+-- made with, since an edit that gives it others leaves no map that was made with them
 pub data IsBehind (s : SessionState) (id : MapId) : MapId → Type 0 where
   itself : IsBehind s id id
   next : (j d : MapId) → IsBehind s id j → Contains (follows s j) d → IsBehind s id d

@@ -7,7 +7,7 @@ use hir_base::ids::{AdtId, Crate, EnumId, EnumVariantId, ItemLoc, ModuleDefId, M
 use hir_base::macro_kind::{MacroCallStyles, MacroId};
 use hir_scope::imports::{GlobId, ImportOrDef, ImportOrExternCrate, ImportOrGlob};
 use hir_scope::item_in_ns::ItemInNs;
-use hir_scope::per_ns::PerNs;
+use hir_scope::per_ns::{Item, MacrosItem, Namespace, PerNs, TypesItem, ValuesItem};
 use hir_scope::visibility::Visibility;
 use std::process::Abort;
 
@@ -113,6 +113,76 @@ fn items_by_namespace(rt: HostRuntime) {
     assert!(rt; full().take_types_full() == full().types);
     assert!(rt; full().take_values_full() == full().values);
     assert!(rt; full().take_macros_full() == full().macros);
+}
+
+/// A struct that an `extern crate` brought.
+fn in_types() -> TypesItem {
+    Item {
+        def: structure(1),
+        vis: PUBLIC,
+        import: Some(ImportOrExternCrate::ExternCrate(extern_crate(3))),
+    }
+}
+
+/// A function that a glob brought.
+fn in_values() -> ValuesItem {
+    Item {
+        def: function(2),
+        vis: IN_CRATE,
+        import: Some(ImportOrGlob::Glob(glob())),
+    }
+}
+
+/// A macro that an import brought.
+fn in_macros() -> MacrosItem {
+    Item {
+        def: makro(),
+        vis: PUBLIC,
+        import: Some(ImportOrExternCrate::Import(import(0, 1))),
+    }
+}
+
+fn brought() -> PerNs {
+    PerNs {
+        types: Some(in_types()),
+        values: Some(in_values()),
+        macros: Some(in_macros()),
+    }
+}
+
+/// Each namespace by itself, with who may see it and what brought it.
+#[test]
+fn whole_items_by_namespace(rt: HostRuntime) {
+    assert!(rt; brought().take_types_full() == Some(in_types()));
+    assert!(rt; brought().take_values_full() == Some(in_values()));
+    assert!(rt; brought().take_macros_full() == Some(in_macros()));
+    let none = PerNs::none();
+    assert!(rt; none.take_types_full().is_none());
+    assert!(rt; none.take_values_full().is_none());
+    assert!(rt; none.take_macros_full().is_none());
+}
+
+fn namespace_of(item: ItemInNs) -> Namespace {
+    match item {
+        ItemInNs::Types(_) => Namespace::Types,
+        ItemInNs::Values(_) => Namespace::Values,
+        ItemInNs::Macros(_) => Namespace::Macros,
+    }
+}
+
+const NAMESPACES: [Namespace; 3] = [Namespace::Types, Namespace::Values, Namespace::Macros];
+
+/// Items come by namespace, and no two of these are equal.
+#[test]
+fn namespaces_in_order(rt: HostRuntime) {
+    let mut items = brought().iter_items();
+    for namespace in NAMESPACES {
+        let found = items.next();
+        assert!(rt; found.is_some_and(|(item, _)| namespace_of(item) == namespace));
+        let alike = NAMESPACES.iter().filter(|other| **other == namespace);
+        assert!(rt; alike.count() == 1);
+    }
+    assert!(rt; items.next().is_none());
 }
 
 #[test]

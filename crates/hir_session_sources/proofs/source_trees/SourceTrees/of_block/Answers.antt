@@ -15,5 +15,5 @@ returns-then-eq c =
     let own : nat_eq c.args.place.now.holder.krate.0 c.args.krate.0 ≡ true = ap (λ k. nat_eq k.0 c.args.krate.0) (sym c.krate.ensures.value) ∙ sym c.eq.ensures
     ∙ c.if-eq.true in
     record {
-      value = rw own (values_of c.get.result ∙ ap (option_map (λ (t : Rc SourceTreeValue Global). t.value)) c.get.ensures.value);
+      value = rw own (values_of c.get_under.result ∙ ap (option_map (λ (t : Rc SourceTreeValue Global). t.value)) c.get_under.ensures.value);
     }

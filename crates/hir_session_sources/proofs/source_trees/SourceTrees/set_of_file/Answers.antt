@@ -1,39 +1,32 @@
--- Where the file is kept under crates, it then is under this one too; else under this one alone.
-use Rattle.std.proofs.Common.{refl, sym, ap, is_some, ◌∙◌, cond, Some}
-use Rattle.std.specs.BTreeMap.{get, is_at}
+-- A crate that lists the file has another tree of it; one that doesn't lists it once it has one, and has none where that is refused.
+use Rattle.std.proofs.Common.{◌∙◌, ap, sym, refl, is_some}
+use Rattle.std.specs.BTreeMap.{is_at}
 use Rattle.std.specs.Cmp.Lexicographic.{slice_cmp}
+use Rattle.std.specs.Map.{lookup}
 use Rattle.std.specs.Ordering.{nat_cmp}
-use Rattle.hir_session_state.proofs.HirItemTree.TreeKeys.{kept_under, changed, unchanged, from_none, on_err}
-use Rattle.hir_session_sources.proofs.SourceLemmas.{exact_paths}
-use Rattle.hir_session_sources.proofs.TreeLemmas.{files_become, files_stay}
+use Rattle.hir_session_state.proofs.HirMapParts.Rewrites.{on_err}
+use Rattle.hir_session_state.proofs.Truth.{where_err, where_ok}
+use Rattle.hir_session_sources.proofs.TreeLemmas.{file_listed, file_not_listed, is_listed-become, listed_file}
 use Rattle.hir_session_sources.proofs.source_trees.SourceTrees.set_of_file.Goals as goal
 
-pub returns-in_ok-insert-in-Some-clause-ok : goal.returns-in_ok-insert-in-Some-clause-ok
-returns-in_ok-insert-in-Some-clause-ok c =
-    files_become c.args.self.now (record c.args.self.now { by_path = c.get_mut.follows.lender c.insert.new.self }) c.args.path.now c.args.krate
-    c.args.tree.value refl refl (
-    changed (slice_cmp nat_cmp) exact_paths.same (λ t. t.value) c.args.path.now c.args.krate (get (slice_cmp nat_cmp) c.args.self.now.by_path)
-    (get (slice_cmp nat_cmp) (c.get_mut.follows.lender c.insert.new.self)) c.in-Some.kept.now c.insert.new.self (Some c.args.tree)
-    (λ krate. ap (λ o. kept_under (λ t. t.value) o krate) (sym c.in-Some.ensures.value))
-    ((c.get_mut.follows.holds c.insert.new.self).3 (ap is_some (sym c.in-Some.ensures.value))).0
-    c.in_ok-insert-in-Some.ensures.updates.0)
+pub returns-then-is_listed-clause-ok : goal.returns-then-is_listed-clause-ok
+returns-then-is_listed-clause-ok c = where_ok c.set_tree.result c.set_tree.ensures.ok (λ trees.
+    listed_file c.args.self.now (record c.args.self.now { by_path = c.set_tree.new.files }) c.args.path.now c.args.krate c.args.tree.value trees
+    (λ k. refl) (λ k. refl) refl (sym c.is_listed.ensures.value ∙ c.if-is_listed.true))
 
-pub returns-in_ok-insert-in-None-2-clause-ok : goal.returns-in_ok-insert-in-None-2-clause-ok
-returns-in_ok-insert-in-None-2-clause-ok c =
-    files_become c.args.self.now (record c.args.self.now { by_path = c.insert-in-None-2.new.self }) c.args.path.now c.args.krate c.args.tree.value refl refl (
-    changed (slice_cmp nat_cmp) exact_paths.same (λ t. t.value) c.args.path.now c.args.krate (get (slice_cmp nat_cmp) c.args.self.now.by_path)
-    (get (slice_cmp nat_cmp) c.insert-in-None-2.new.self) c.new-kept.result c.insert-in-None.new.self (Some c.args.tree)
-    (from_none (λ t. t.value) (get (slice_cmp nat_cmp) c.args.self.now.by_path c.args.path.now) c.new-kept.result c.in-None.ensures.value
-    c.new-kept.ensures.empty)
-    (λ p. rw c.in_ok-clone-in-None.ensures.value at (c.in_ok-insert-in-None-2.ensures.updates.0 p) ∙ ap
-    (λ m. cond (is_at (slice_cmp nat_cmp c.args.path.now) p) (Some c.insert-in-None.new.self) (get (slice_cmp nat_cmp) m p)) c.get_mut.follows.holds-at-none)
-    c.in_ok-insert-in-None.ensures.updates.0)
+pub returns-in_err-listed-clause-err : goal.returns-in_err-listed-clause-err
+returns-in_err-listed-clause-err c = on_err c.from_residual-in_err-listed.result (
+    file_not_listed c.args.self.now (record c.args.self.now { by_path = c.set_tree-2.new.files }) c.args.path.now c.args.krate c.args.tree.value
+    c.in_ok-set_tree.ensures.ok (λ k. refl) (λ k. refl) (λ j k. refl) (sym c.is_listed.ensures.value ∙ c.if-is_listed.false))
 
-pub returns-in_err-insert-in-Some-clause-err : goal.returns-in_err-insert-in-Some-clause-err
-returns-in_err-insert-in-Some-clause-err c = on_err c.from_residual.result
-    (files_stay c.args.self.now (record c.args.self.now { by_path = c.get_mut.follows.lender c.insert.new.self }) refl refl
-    (unchanged (slice_cmp nat_cmp) exact_paths.same (λ t. t.value) c.args.path.now (get (slice_cmp nat_cmp) c.args.self.now.by_path)
-    (get (slice_cmp nat_cmp) (c.get_mut.follows.lender c.insert.new.self)) c.in-Some.kept.now c.insert.new.self
-    (λ krate. ap (λ o. kept_under (λ t. t.value) o krate) (sym c.in-Some.ensures.value))
-    ((c.get_mut.follows.holds c.insert.new.self).3 (ap is_some (sym c.in-Some.ensures.value))).0
-    c.in_err-insert-in-Some.ensures.err))
+pub returns-clause-ok : goal.returns-clause-ok
+returns-clause-ok c = where_ok c.insert_under.result c.insert_under.ensures.ok (λ becomes.
+    file_listed c.args.self.now (record c.args.self.now { by_path = c.set_tree-2.new.files; paths = c.insert_under.new.stored }) c.args.path.now
+    c.args.krate c.args.tree.value c.in_ok-set_tree.ensures.ok (λ k. refl) (λ k. refl)
+    (is_listed-become c.args.path.now c.args.krate _ c.args.self.now.paths c.insert_under.new.stored (rw c.in_ok-listed.ensures.value at becomes)))
+
+pub returns-clause-err : goal.returns-clause-err
+returns-clause-err c = where_err c.insert_under.result c.insert_under.ensures.err (λ same.
+    file_not_listed c.args.self.now (record c.args.self.now { by_path = c.set_tree-2.new.files; paths = c.insert_under.new.stored }) c.args.path.now
+    c.args.krate c.args.tree.value c.in_ok-set_tree.ensures.ok (λ k. refl) (λ k. refl)
+    (λ j k. ap (λ es. is_some (lookup (is_at (slice_cmp nat_cmp j)) es)) (same k)) (sym c.is_listed.ensures.value ∙ c.if-is_listed.false))
