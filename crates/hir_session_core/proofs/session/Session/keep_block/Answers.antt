@@ -34,5 +34,5 @@ invariant_of-self-2 c = (
 
 pub returns-clause-ok : goal.returns-clause-ok
 returns-clause-ok c =
-    rw c.await_fallen.ensures.same (rw c.in_ok-set_block.ensures.ok (edited_becomes _ (of_block c.args.block (Some (source_view c.args.source))) _ _ _ c.self.view_is c.self.invariant.0
-    (c.in_ok-hits.ensures.hit _ c.self.invariant.1) c.forget_listing-fell.ensures.forgotten))
+    rw c.await_fallen.ensures.same (rw c.in_ok-set_block.ensures.ok (edited_becomes _ (of_block c.args.block (Some (source_view c.args.source))) _ _ _
+    c.self.view_is c.self.invariant.0 (c.in_ok-hits.ensures.hit _ c.self.invariant.1) c.forget_listing-fell.ensures.forgotten))
