@@ -8,7 +8,7 @@ use std::alloc::Global;
 use std::process::Abort;
 use std::test::Fail;
 
-/// Crate 1 depends on no crate.
+/// Two crates; neither depends on the other.
 const CRATES: &str =
     r#"{"do":"crates","crates":[{"edition":"2021","root":"a.rs"},{"edition":"2021","root":"b.rs"}]}"#;
 
@@ -17,68 +17,78 @@ const STRUCT: &str = r#"{"do":"set file","file":"a.rs","unit":{"nodes":[
 {"kind":"Struct","id":[1,0],"name":"S","vis":"pub","attrs":[{"path":"cfg","cfg":"x"}]}]}}"#;
 
 /// `use zero::S;`
-const IMPORT: &str =
-    r#"{"do":"set file","file":"b.rs","unit":{"nodes":[{"kind":"Use","id":[1,0],"tree":{"single":"zero::S"}}]}}"#;
+const IMPORT: &str = r#"{"do":"set file","file":"b.rs","unit":{"nodes":[
+{"kind":"Use","id":[1,0],"tree":{"single":"zero::S"}}]}}"#;
 
-/// What a crate is given, and what comes of it.
-struct Row {
-    /// The number of the crate.
-    krate: u32,
-    edition: Edition,
-    /// The options that are set.
-    options: &'static [&'static str],
-    /// The crate on which it depends as `zero`.
-    zero: Option<u32>,
-    refused: Option<EditError>,
-    /// Whether crates 0 and 1 are stale behind the edit; a refresh resolves those.
-    stale: [bool; 2],
-}
+/// The number of a crate, and what it is given: an edition, the options that are set, and the crate on which it depends as `zero`.
+/// Then why that is refused, and whether crates 0 and 1 are stale behind it.
+type Row = (
+    u32,
+    Edition,
+    &'static [&'static str],
+    Option<u32>,
+    Option<EditError>,
+    [bool; 2],
+);
 
-const ROWS: [Row; 9] = [
-    // as it is
-    row(1, Edition::Edition2021, &[], None, [false, false]),
-    // the crate alone, on which no other depends
-    row(1, Edition::Edition2021, &[], Some(0), [false, true]),
-    // the crate, and the one that depends on it
-    row(0, Edition::Edition2021, &["x"], None, [true, true]),
-    // the same options, one of them twice
-    row(0, Edition::Edition2021, &["x", "x"], None, [false, false]),
-    row(0, Edition::Edition2015, &["x"], None, [true, true]),
-    refused(0, Some(0), EditError::DependencyOrder(Crate(0))),
-    refused(2, None, EditError::UnknownCrate),
-    // the dependency goes
-    row(1, Edition::Edition2021, &[], None, [false, true]),
-    row(0, Edition::Edition2021, &[], None, [true, false]),
+/// In turn, in one session, with a refresh behind each.
+const ROWS: [Row; 10] = [
+    // what it has
+    (1, Edition::Edition2021, &[], None, None, [false, false]),
+    // a dependency, of a crate on which none depends
+    (1, Edition::Edition2021, &[], Some(0), None, [false, true]),
+    // an option, of a crate on which one depends
+    (0, Edition::Edition2021, &["x"], None, None, [true, true]),
+    // the same options, of which one is listed twice
+    (
+        0,
+        Edition::Edition2021,
+        &["x", "x"],
+        None,
+        None,
+        [false, false],
+    ),
+    // an option that nothing asks for
+    (
+        0,
+        Edition::Edition2021,
+        &["x", "y"],
+        None,
+        None,
+        [true, true],
+    ),
+    // another edition
+    (
+        0,
+        Edition::Edition2015,
+        &["x", "y"],
+        None,
+        None,
+        [true, true],
+    ),
+    // itself as a dependency
+    (
+        0,
+        Edition::Edition2021,
+        &[],
+        Some(0),
+        Some(EditError::DependencyOrder(Crate(0))),
+        [false, false],
+    ),
+    // no such crate
+    (
+        2,
+        Edition::Edition2021,
+        &[],
+        None,
+        Some(EditError::UnknownCrate),
+        [false, false],
+    ),
+    // no dependency, of the crate that had one
+    (1, Edition::Edition2021, &[], None, None, [false, true]),
+    // no option, of a crate on which none depends
+    (0, Edition::Edition2021, &[], None, None, [true, false]),
 ];
-
-const fn row(
-    krate: u32,
-    edition: Edition,
-    options: &'static [&'static str],
-    zero: Option<u32>,
-    stale: [bool; 2],
-) -> Row {
-    Row {
-        krate,
-        edition,
-        options,
-        zero,
-        refused: None,
-        stale,
-    }
-}
-
-/// A refused edit makes nothing stale.
-const fn refused(krate: u32, zero: Option<u32>, why: EditError) -> Row {
-    Row {
-        krate,
-        edition: Edition::Edition2021,
-        options: &[],
-        zero,
-        refused: Some(why),
-        stale: [false, false],
-    }
-}
 
 fn options(alloc: Global, names: &[&str]) -> Result<Vec<CfgAtom>, Fail> {
     let mut options = Vec::new(alloc);
@@ -91,51 +101,59 @@ fn options(alloc: Global, names: &[&str]) -> Result<Vec<CfgAtom>, Fail> {
 fn dependencies(alloc: Global, zero: Option<u32>) -> Result<Dependencies, Fail> {
     let mut dependencies = Vec::new(alloc);
     if let Some(number) = zero {
+        let name = Name::new(alloc, "zero")?;
         dependencies.push(Dependency {
             krate: Crate(number),
-            name: Name::new(alloc, "zero")?,
+            name,
             prelude: true,
         })?;
     }
     Ok(Dependencies::new(dependencies))
 }
 
-fn edit_of(alloc: Global, row: &Row) -> Result<Edit, Fail> {
-    Ok(Edit::SetCrate {
-        krate: Crate(row.krate),
-        edition: row.edition,
+/// What comes of an edit.
+fn applied(alloc: Global, session: &mut Session, row: &Row) -> Result<Option<EditError>, Fail> {
+    let (number, edition, names, zero, _, _) = *row;
+    let given = Edit::SetCrate {
+        krate: Crate(number),
+        edition,
         attrs: Vec::new(alloc),
-        cfg: options(alloc, row.options)?,
-        deps: dependencies(alloc, row.zero)?,
-    })
+        cfg: options(alloc, names)?,
+        deps: dependencies(alloc, zero)?,
+    };
+    match session.apply(alloc, given) {
+        Ok(()) => Ok(None),
+        Err(why) => Ok(Some(why)),
+    }
 }
 
-fn is_stale(alloc: Global, session: &Session, krate: u32) -> bool {
-    session.status(&Place::root(alloc, Crate(krate))) == Status::Stale
+fn is_stale(alloc: Global, session: &Session, number: u32) -> bool {
+    session.status(&Place::root(alloc, Crate(number))) == Status::Stale
 }
 
-/// Makes the edit of a row, and refreshes.
-fn is_edited(rt: &impl Abort, alloc: Global, session: &mut Session, row: &Row) -> Result<(), Fail> {
-    let edit = edit_of(alloc, row)?;
-    assert!(rt;
-        session.apply(alloc, edit).err() == row.refused,
-        "refused or not"
-    );
-    assert!(rt; is_stale(alloc, session, 0) == row.stale[0], "crate 0");
-    assert!(rt; is_stale(alloc, session, 1) == row.stale[1], "crate 1");
-    let resolved = session.refresh(alloc)?;
-    assert!(rt; resolved.len() == row.stale.iter().filter(|stale| **stale).count());
+fn is_as_told(
+    rt: &impl Abort,
+    alloc: Global,
+    session: &mut Session,
+    row: &Row,
+) -> Result<(), Fail> {
+    let (_, _, _, _, refused, stale) = *row;
+    assert!(rt; applied(alloc, session, row)? == refused);
+    assert!(rt; is_stale(alloc, session, 0) == stale[0], "crate 0");
+    assert!(rt; is_stale(alloc, session, 1) == stale[1], "crate 1");
+    session.refresh(alloc)?;
+    assert!(rt; !is_stale(alloc, session, 0) && !is_stale(alloc, session, 1));
     Ok(())
 }
 
 #[test]
-fn crates_by_calls(rt: HostRuntime) -> Result<(), Fail> {
+fn other_data_by_calls(rt: HostRuntime) -> Result<(), Fail> {
     let mut session = begun(rt.alloc(), CRATES)?;
     edit(rt.alloc(), &mut session, STRUCT)?;
     edit(rt.alloc(), &mut session, IMPORT)?;
     session.refresh(rt.alloc())?;
     for row in &ROWS {
-        is_edited(&rt, rt.alloc(), &mut session, row)?;
+        is_as_told(&rt, rt.alloc(), &mut session, row)?;
     }
     Ok(())
 }
