@@ -37,14 +37,15 @@ const A: &str = "pub fn f() {}\npub struct Later;\npub mod k { pub struct Deep; 
 const B: &str = "pub use crate::a::k::*;\nuse crate::c::Shared;\nuse self::Way::Up as Upward;\n\
     #[derive(Clone)] struct T;\n#[unknown] fn g() {}\n";
 const C: &str = "pub struct Shared;\npub fn helper() {}\npub(in crate::c) mod within {}\n";
-const D: &str = "use super::*;\nuse self::c::helper as other;\nuse super::super::above;\n";
+const D: &str = "use super::*;\nuse self::c::helper as other;\nuse super::super::above;\n\
+    mod twice { pub fn first() {} }\nmod twice { pub fn second() {} }\nmod once { pub fn third() {} }\n";
 
 const BY_NAMES: Option<SameBy> = Some(SameBy::Names);
 const BY_LOOK_UPS: Option<SameBy> = Some(SameBy::LookUps);
 
 /// Each edit of what is behind the texts above: the file, what stands there, what comes in its place (behind the text
 /// where nothing stands there), and by what it is known that the same is told.
-const EDITS: [(&str, &str, &str, Option<SameBy>); 45] = [
+const EDITS: [(&str, &str, &str, Option<SameBy>); 48] = [
     // Names that stand nowhere else.
     ("c", "", "fn alone() {}\n", BY_NAMES),
     ("c", "pub fn helper() {}", "pub fn helper() {} pub struct Alone;", BY_NAMES),
@@ -92,6 +93,9 @@ const EDITS: [(&str, &str, &str, Option<SameBy>); 45] = [
     ("lib", "", "use crate::c::Shared as above;\n", BY_LOOK_UPS),
     ("a", "pub enum Way { Up, Down }", "pub enum Way { Down }", None),
     ("a", "pub struct Deep;", "pub struct Deep; pub struct Shared; pub struct c;", None),
+    ("d", "pub fn first() {}", "pub fn first() {} use crate::a::f as g;", None),
+    ("d", "pub fn second() {}", "pub fn second() {} use crate::a::f as g;", None),
+    ("d", "pub fn third() {}", "pub fn third() {} use crate::a::f as g;", BY_LOOK_UPS),
     ("b", "", "use crate::a::f as unknown;\n", None),
     ("b", "", "use crate::a::Later as Clone;\n", None),
 ];

@@ -15,7 +15,9 @@ use super::unnamed::{is_plain_name, is_plain_visibility, plain_names, Changes, M
 use super::{Key, ModulePlace, Workspace};
 use crate::cfg::Options;
 use crate::question::{names_of, Context};
-use crate::unit::{is_builtin, joined, numbered, paths_of, steps_of, Built, Derives, Detail, Node, Step};
+use crate::unit::{
+    is_builtin, joined, numbered, paths_of, place_json, quoted, steps_of, Built, Derives, Detail, Node, Step,
+};
 
 /// The replies to more questions may take longer than it takes to resolve the crate.
 const MOST_QUESTIONS: usize = 1000;
@@ -36,14 +38,18 @@ struct Bindings {
 }
 
 impl Bindings {
-    /// None where the edit does something else: where an import has an attribute or a glob, or is of one name alone.
-    fn read(krate: u32, module: &[Step], changes: &Changes) -> Option<Bindings> {
+    /// None where the edit does something else: where an import has an attribute or a glob, or is of one name alone, or
+    /// where it is in a module beside another of its name. `now` is what the file is then.
+    fn read(krate: u32, module: &[Step], changes: &Changes, now: &Built) -> Option<Bindings> {
         let mut imports = Vec::new();
         // How much more often a module gets a name so than it loses it.
         let mut counts: BTreeMap<(&[&str], &str, String), i32> = BTreeMap::new();
         for it in &changes.changed {
             let (node, count) = (it.node, if it.is_new { 1 } else { -1 });
             let mut leaves = Vec::new();
+            if !is_only_module(now, &it.modules) {
+                return None;
+            }
             if node["kind"] != "Use" {
                 let name = *plain_names(node)?.first()?;
                 *counts.entry((&it.modules, name, node.to_string())).or_default() += count;
@@ -97,6 +103,16 @@ fn read_leaves<'a>(
         None => (prefix.to_owned(), around),
     };
     tree["list"].as_array()?.iter().try_for_each(|it| read_leaves(it, &prefix, around, made))
+}
+
+/// Whether no inline module on the way to this one has a name that another has beside it.
+fn is_only_module(built: &Built, modules: &[&str]) -> bool {
+    let is_only = |at: usize| {
+        let is_beside = |it: &Node| it.modules.iter().map(|it| &**it).eq(modules[..at].iter().copied());
+        let is_so_called = |it: &&Node| it.kind == "Module" && *it.name == *modules[at] && is_beside(it);
+        built.nodes.iter().filter(is_so_called).count() == 1
+    };
+    (0..modules.len()).all(is_only)
 }
 
 /// A module within the one whose items a file has.
@@ -198,11 +214,15 @@ fn with_globs(
 impl Workspace {
     /// Whether these changes of a file of one crate leave what is told as it is. `now` is what the file is then.
     pub(super) fn looks_up_same(&mut self, krate: u32, key: &Key, changes: &Changes, now: &Built) -> Result<bool> {
-        let module = self.module_of(krate, key).map(steps_of);
-        let Some(Bindings { names, imports }) = module.and_then(|it| Bindings::read(krate, &it, changes)) else {
+        let Some(module) = self.module_of(krate, key).map(steps_of) else {
+            return Ok(false);
+        };
+        let Some(Bindings { names, imports }) = Bindings::read(krate, &module, changes, now) else {
             return Ok(false);
         };
         let mut questions = Questions::default();
+        // Another file may have a module of this name.
+        let modules = questions.add(format!("{{\"do\":\"modules\",\"file\":{}}}", quoted(key)));
         let sources = self.sources_from(krate);
         let found = self.look_ups(krate, key, &names, now, &sources, &mut questions);
         let globs = self.globs_of(&sources, &mut questions);
@@ -218,7 +238,9 @@ impl Workspace {
             return Ok(false);
         }
         let replies = self.ask_all(&questions.lines)?;
-        if replies.iter().any(|it| it.get("error").is_some()) {
+        let places = replies[modules]["ok"].as_array().into_iter().flatten();
+        let is_there = places.map(Value::to_string).eq([place_json(krate, &module)]);
+        if !is_there || replies.iter().any(|it| it.get("error").is_some()) {
             return Ok(false);
         }
         let leads = |number: usize| self.place_of_module(&replies[number]["ok"]["types"]["def"]);
