@@ -1,6 +1,7 @@
 //! Measures edits: a package of so many nodes, in which the body of a function is edited in a file of 2,000 lines, and in
-//! which an item is added there. Each time of the clock runs from the new text to the diagnostics of the package. On a
-//! machine that has other work the processor's time tells more: that of the front end and of the program, on Linux.
+//! which an item is added there; or a file of a package that is there. Each time of the clock runs from the new text to the
+//! diagnostics of the package. On a machine that has other work the processor's time tells more: that of the front end and
+//! of the program, on Linux.
 
 mod server;
 
@@ -28,6 +29,15 @@ struct Cli {
     /// the diagnostics that are published
     #[arg(long)]
     server: bool,
+    /// A file that is edited in the language server: the folder has a package, which is taken as it is
+    #[arg(long)]
+    file: Option<PathBuf>,
+    /// An import that is added to that file and taken away again
+    #[arg(long, default_value = "use std::fmt::Debug;")]
+    import: String,
+    /// Options of the language server
+    #[arg(last = true)]
+    options: Vec<String>,
 }
 
 const TABLE: &str =
@@ -68,6 +78,9 @@ fn processor_of(process: u32) -> f64 {
 
 fn main() -> Result<()> {
     let cli = Cli::parse();
+    if let Some(it) = &cli.file {
+        return server::measure_file(&cli, &it.canonicalize()?);
+    }
     let source = cli.folder.join("src");
     std::fs::create_dir_all(&source)?;
     std::fs::write(

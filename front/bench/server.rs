@@ -26,6 +26,7 @@ impl Server {
             Some(it) => command.arg("--std-sources").arg(it),
             None => command.arg("--no-std"),
         };
+        command.args(&cli.options);
         let mut child = command.stdin(Stdio::piped()).stdout(Stdio::piped()).spawn().context("the server starts")?;
         let input = child.stdin.take().context("its input is a pipe")?;
         let output = BufReader::new(child.stdout.take().context("its output is a pipe")?);
@@ -88,13 +89,12 @@ struct Opened<'a> {
 }
 
 impl Opened<'_> {
-    fn open<'a>(cli: &'a Cli, path: &Path) -> Result<Opened<'a>> {
+    fn open<'a>(cli: &'a Cli, path: &Path, text: String) -> Result<Opened<'a>> {
         let mut server = Server::start(cli)?;
         let uri = format!("file://{}", path.display());
         let root = format!("file://{}", cli.folder.canonicalize()?.display());
         server.ask("initialize", json!({"processId": null, "rootUri": root, "capabilities": {}}))?;
         server.notify("initialized", json!({}))?;
-        let text = file(3, 0, 0);
         let document = json!({"uri": uri, "languageId": "rust", "version": 1, "text": text});
         server.notify("textDocument/didOpen", json!({"textDocument": document}))?;
         // A request without a place, so that its answer takes no time of its own.
@@ -142,6 +142,43 @@ impl Opened<'_> {
         Ok(())
     }
 
+    /// Adds the import at a place above one of nothing, and takes it away again.
+    fn added_and_taken_away(&mut self, place: &Value) -> Result<()> {
+        let next = json!({"line": place["line"].as_u64().unwrap_or_default() + 1, "character": 0});
+        let import = format!("{}\n", self.cli.import);
+        let edits = [("added", place, &*import), ("taken away", &next, "")];
+        let mut times = [Vec::new(), Vec::new()];
+        let mut of_processor = [[0.0; 2]; 2];
+        for _ in 0..self.cli.edits {
+            for (at, (_, end, text)) in edits.iter().enumerate() {
+                let before = self.processes.map(processor_of);
+                let start = Instant::now();
+                self.change(place.clone(), (*end).clone(), text)?;
+                self.server.published()?;
+                times[at].push(start.elapsed().as_secs_f64() * 1000.0);
+                // What waits is handed in, so that each edit is one of what the program has.
+                self.server.ask("textDocument/hover", json!({}))?;
+                let after = self.processes.map(processor_of);
+                (0..2).for_each(|it| of_processor[at][it] += after[it] - before[it]);
+            }
+        }
+        for ((what, ..), (times, of_processor)) in edits.into_iter().zip(times.into_iter().zip(of_processor)) {
+            told(&format!("an import is {what}, published (processor: and handed in)"), times, of_processor);
+        }
+        Ok(())
+    }
+
+    /// The most memory of both. Ends the server.
+    fn end(self) -> Result<()> {
+        let [own, program] = self.processes.map(memory_of);
+        println!("at most {own} MB, the program {program} MB");
+        let mut server = self.server;
+        server.ask("shutdown", Value::Null)?;
+        server.notify("exit", Value::Null)?;
+        server.child.wait()?;
+        Ok(())
+    }
+
     /// Types a word behind a path in a body at the end of the file, and asks each time what it may become.
     fn completions(&mut self, what: &str, path: &str) -> Result<()> {
         let line = self.text.lines().count() + self.cli.edits;
@@ -166,7 +203,7 @@ impl Opened<'_> {
 
 pub fn measure(cli: &Cli, path: &Path) -> Result<()> {
     let start = Instant::now();
-    let mut opened = Opened::open(cli, path)?;
+    let mut opened = Opened::open(cli, path, file(3, 0, 0))?;
     println!("opened in {:.2} s", start.elapsed().as_secs_f64());
     println!("{TABLE}");
     const BEFORE: &str = "self.second.get(at + ";
@@ -194,11 +231,25 @@ pub fn measure(cli: &Cli, path: &Path) -> Result<()> {
     let last = place(text.lines().count() + 2 * cli.edits);
     opened.published("an item is added, published", &last, &|it| format!("fn told_{it}() {{}}\n"))?;
     opened.published("an import is added, published", &last, &|it| format!("use self::Item{it}In3 as Told{it};\n"))?;
-    let [own, program] = opened.processes.map(memory_of);
-    println!("at most {own} MB, the program {program} MB");
-    let mut server = opened.server;
-    server.ask("shutdown", Value::Null)?;
-    server.notify("exit", Value::Null)?;
-    server.child.wait()?;
-    Ok(())
+    opened.end()
+}
+
+/// Measures edits of a file of a package that is there.
+pub fn measure_file(cli: &Cli, path: &Path) -> Result<()> {
+    let start = Instant::now();
+    let mut opened = Opened::open(cli, path, std::fs::read_to_string(path)?)?;
+    println!("opened in {:.2} s", start.elapsed().as_secs_f64());
+    println!("{TABLE}");
+    let end = json!({"line": opened.text.lines().count(), "character": 0});
+    opened.change(end.clone(), end.clone(), "use crate::nothing_of_this_name;\n")?;
+    opened.server.published()?;
+    opened.published("a line, published", &end, &|_| "\n".to_owned())?;
+    opened.published("an item that nothing names is added, published", &end, &|it| format!("fn told_{it}() {{}}\n"))?;
+    opened.added_and_taken_away(&end)?;
+    let import = |it: usize| format!("{}\n", cli.import.replace(';', &format!(" as Told{it};")));
+    opened.edits(
+        "an import is added, to the answer of a request",
+        &|it| json!({"range": {"start": end, "end": end}, "text": import(it)}),
+    )?;
+    opened.end()
 }

@@ -30,7 +30,7 @@ use serde_json::{json, Value};
 use crate::package::Wanted;
 use crate::report::Place;
 use crate::token::{Position, Span, SyntaxError};
-use crate::workspace::{key_of, path_of_key, Key, Parsed, Workspace};
+use crate::workspace::{key_of, path_of_key, Key, Parsed, SameBy, Workspace};
 use message::{error, notification, reply};
 use text::Text;
 use uri::{key_of_path, key_of_uri, path_of_uri, uri_of_path};
@@ -118,8 +118,15 @@ struct Document {
     /// The text from which the items of the file were read.
     good: Option<Arc<Text>>,
     is_dirty: bool,
-    /// What stands in the text, where that is handed in when something is asked or when nothing comes for a while.
-    waits: Option<Parsed>,
+    waits: Option<Waiting>,
+}
+
+/// The last text of a file that parses, where it changes nothing of what is told: it is handed in when something is asked,
+/// with another text, or when nothing comes for a while.
+struct Waiting {
+    text: Arc<Text>,
+    parsed: Parsed,
+    same_by: SameBy,
 }
 
 struct Server<W: Write> {
@@ -548,13 +555,8 @@ impl<W: Write> Server<W> {
     /// A range of a file as it is now.
     fn range(&mut self, key: &Key, span: Span) -> Value {
         let text = self.unit_text(key);
-        match self.documents.get(key).map(|it| &it.text) {
-            Some(now) if !Arc::ptr_eq(now, &text) => {
-                let [start, end] = [span.start, span.end].map(|it| text.moved(now, text.offset_of(it)));
-                now.range_of(start..end.max(start))
-            }
-            _ => text.range(span),
-        }
+        let now = self.documents.get(key).map_or(&text, |it| &it.text);
+        text.range_in(now, span)
     }
 
     /// A place, where its file isn't one of the stub.

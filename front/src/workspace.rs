@@ -9,6 +9,7 @@ mod hand_in;
 mod left_out;
 mod looked_at;
 mod looked_up;
+mod lookups;
 mod names;
 mod places;
 mod recorded;
@@ -39,6 +40,7 @@ use names::Names;
 pub(crate) use names::{Bound, ModulePlace, Seen};
 pub(crate) use recorded::Recorded;
 use type_names::TypeNames;
+pub use updates::SameBy;
 
 /// The text that the program knows a file by: its absolute path without the first `/`.
 pub type Key = Arc<str>;

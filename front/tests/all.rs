@@ -15,4 +15,5 @@ mod lsp;
 mod lsp_edits;
 mod lsp_messages;
 mod paths;
+mod same_reports;
 mod symbols;

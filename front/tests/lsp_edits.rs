@@ -5,8 +5,8 @@ use std::path::Path;
 
 use crate::common::client::Client;
 #[cfg(unix)]
-use crate::common::{client::program, logged, package, write_script};
-use crate::common::{market, own, Dice};
+use crate::common::{client::program, logged, write_script};
+use crate::common::{market, own, package, Dice};
 use cargo_nogsimat::lsp::message;
 use cargo_nogsimat::lsp::text::Text;
 use serde_json::{json, Value};
@@ -443,6 +443,55 @@ fn items_that_nothing_names_wait() {
     let whole = json!({"textDocument": {"uri": uri("a.rs")}, "contentChanges": [{"text": "pub struct S;\n"}]});
     client.exchange(&[message::notification("textDocument/didChange", whole)]);
     assert_eq!(lines_of(&client.published).len(), 2, "{:?}", client.published);
+    assert_eq!(client.end(), 1);
+}
+
+/// A text that doesn't parse leaves what was typed before it, and an import comes with the item in another file that it
+/// names.
+#[test]
+fn what_waits_is_not_lost() {
+    let text = "mod a;\nmod b;\nuse crate::a::nothing;\n";
+    let folder = package(&[("src/lib.rs", text), ("src/a.rs", "\n"), ("src/b.rs", "\n")]);
+    let mut client = Client::start(folder.path(), &[]);
+    client.initialize();
+    client.open("src/lib.rs", text);
+    client.open("src/a.rs", "\n");
+    client.open("src/b.rs", "\n");
+    let insert = |name: &str, line: u32, text: &str| {
+        let range = json!({"start": {"line": line, "character": 0}, "end": {"line": line, "character": 0}});
+        let document = json!({"uri": format!("file://DIR/src/{name}.rs")});
+        let params = json!({"textDocument": document, "contentChanges": [{"range": range, "text": text}]});
+        message::notification("textDocument/didChange", params)
+    };
+    let is_told = |it: &Value, name: &str| {
+        let uri = it["params"]["uri"].as_str().unwrap_or_default();
+        it["method"] == "textDocument/publishDiagnostics" && uri.ends_with(&format!("/src/{name}.rs"))
+    };
+    client.send(&insert("lib", 2, "pub fn added() {}\n"));
+    client.receive_to(|it| is_told(it, "lib"));
+    client.send(&insert("lib", 0, "}\n"));
+    client.receive_to(|it| is_told(it, "lib"));
+    let asked = json!({"textDocument": {"uri": "file://DIR/src/lib.rs"}});
+    let symbols = client.request("textDocument/documentSymbol", asked);
+    let added = symbols.as_array().unwrap().iter().find(|it| it["name"] == "added").unwrap();
+    assert_eq!(added["location"]["range"]["start"]["line"], 3);
+    let hover = client.at("textDocument/hover", "src/lib.rs", (3, 8));
+    assert!(hover["contents"]["value"].as_str().unwrap().starts_with("function `one::added`"), "{hover}");
+    assert_eq!(lines_of(&client.published).len(), 2, "{:?}", client.published);
+    // Mended.
+    let range = json!({"start": {"line": 0, "character": 0}, "end": {"line": 1, "character": 0}});
+    let params =
+        json!({"textDocument": {"uri": "file://DIR/src/lib.rs"}, "contentChanges": [{"range": range, "text": ""}]});
+    client.exchange(&[message::notification("textDocument/didChange", params)]);
+    assert_eq!(lines_of(&client.published).len(), 1, "{:?}", client.published);
+    // An item, and at once what names it: nothing is told of that.
+    let edits =
+        [insert("a", 0, "pub struct Fresh;\n"), insert("b", 0, "use crate::a::Fresh;\n"), insert("lib", 0, "//\n")];
+    client.send_all(&edits);
+    let received = client.receive_to(|it| is_told(it, "lib"));
+    assert!(!received.iter().any(|it| is_told(it, "b")), "{received:?}");
+    client.exchange(&[]);
+    assert_eq!(lines_of(&client.published).len(), 1, "{:?}", client.published);
     assert_eq!(client.end(), 1);
 }
 

@@ -11,7 +11,7 @@ use super::declaration::{declaration_at, documentation_of, Declaration};
 use super::message::INVALID_PARAMS;
 use super::symbols::{symbols_of, Symbol};
 use super::uri::key_of_uri;
-use super::{key_of_place, place_of, Failure, Server};
+use super::{key_of_place, place_of, Failure, Server, Waiting};
 use crate::question::{Context, Question};
 use crate::report::{place_at, Meaning, Place};
 use crate::site::{sites, Site};
@@ -453,11 +453,11 @@ impl<W: Write> Server<W> {
 
     pub(super) fn symbols(&mut self, params: &Value) -> Result<Value, Failure> {
         let key = asked_file(params)?;
-        let waiting = self.documents.get(&key).and_then(|it| Some((it.text.clone(), it.waits.clone()?)));
+        let waiting = self.documents.get(&key).and_then(|it| Some((&it.text, it.waits.as_ref()?)));
         let made: Vec<Value> = match waiting {
-            Some((text, parsed)) => {
-                let all = symbols_of(&parsed.unit.items, &text);
-                all.iter().map(|it| symbol(it, &mut |span| text.range(span))).collect()
+            Some((now, Waiting { text, parsed, .. })) => {
+                let all = symbols_of(&parsed.unit.items, text);
+                all.iter().map(|it| symbol(it, &mut |span| text.range_in(now, span))).collect()
             }
             None => {
                 let text = self.unit_text(&key);

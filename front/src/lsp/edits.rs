@@ -10,10 +10,10 @@ use super::text::Text;
 use anyhow::Result;
 use serde_json::{json, Value};
 
-use super::{key_of_place, span_of, Phase, Server, ERROR};
+use super::{key_of_place, span_of, Phase, Server, Waiting, ERROR};
 use crate::report::Diagnostic;
 use crate::unit::Built;
-use crate::workspace::{bytes_of, parse_text, path_of_key, Key, Parsed};
+use crate::workspace::{bytes_of, parse_text, path_of_key, Key, Parsed, SameBy};
 
 /// What became of a text.
 pub(super) enum Reading {
@@ -22,11 +22,11 @@ pub(super) enum Reading {
     /// It doesn't parse.
     Broken,
     /// What stands in it isn't handed in yet: what is told is the same, but for places.
-    Waits(Parsed),
+    Waits(Waiting),
 }
 
-/// The text of a file, and what stands in it where that is known.
-pub(super) type Typed = (Key, Arc<Text>, Option<Parsed>);
+/// The text of a file, and what stands in it.
+pub(super) type Typed = (Key, Arc<Text>, Parsed);
 
 impl<W: Write> Server<W> {
     /// Whether the file has the items of a module.
@@ -40,7 +40,10 @@ impl<W: Write> Server<W> {
         for key in keys {
             let text = bytes_of(&path_of_key(key)).ok().and_then(|it| String::from_utf8(it).ok());
             match text {
-                Some(text) if self.is_module(key) => texts.push((key.clone(), Arc::new(Text::new(text)), None)),
+                Some(text) if self.is_module(key) => {
+                    let parsed = parse_text(&path_of_key(key), key, &text);
+                    texts.push((key.clone(), Arc::new(Text::new(text)), parsed));
+                }
                 // Not there any more, no UTF-8, new, or included by another.
                 _ => others.push(key.clone()),
             }
@@ -68,49 +71,90 @@ impl<W: Write> Server<W> {
         Ok(())
     }
 
-    /// Hands texts in, where they don't wait.
+    /// Hands texts in, where they don't wait, and then also those that do.
     pub(super) fn read_texts(&mut self, texts: Vec<Typed>, may_wait: bool) -> Result<Vec<(Key, Arc<Text>, Reading)>> {
-        let (mut readings, mut work, mut before) = (Vec::new(), Vec::new(), Vec::new());
+        let (mut readings, mut work) = (Vec::new(), Vec::new());
         for (key, text, parsed) in texts {
             let Some(space) = self.space.as_mut() else {
                 readings.push((key, text, Reading::Taken));
                 continue;
             };
-            let parsed = parsed.unwrap_or_else(|| parse_text(&path_of_key(&key), &key, text.as_str()));
-            let built = space.built(&key).cloned();
-            let has_items = built.is_some() && space.parsed(&key).is_some_and(|it| it.error.is_none());
+            let has_items = space.built(&key).is_some() && space.parsed(&key).is_some_and(|it| it.error.is_none());
             if let (Some(error), true) = (&parsed.error, has_items) {
                 self.errors.insert(key.clone(), error.clone());
                 self.needs_report = true;
                 readings.push((key, text, Reading::Broken));
                 continue;
             }
-            self.needs_report |= self.errors.remove(&key).is_some() || self.touched.contains(&key);
+            // A text that waits may not be the present one, which doesn't parse then.
+            let document = self.documents.get(&key);
+            let is_present = document.map_or(true, |it| Arc::ptr_eq(&it.text, &text));
             // Where the items stand that are told of has to be known.
-            let may_wait = may_wait && self.documents.get(&key).is_some_and(|it| it.good.is_some());
-            if may_wait && !space.take_unchanged(&key, &parsed) && space.reports_same(&key, &parsed) {
-                readings.push((key, text, Reading::Waits(parsed)));
+            let may_wait = may_wait && document.is_some_and(|it| it.good.is_some());
+            let is_mended = is_present && self.errors.remove(&key).is_some();
+            self.needs_report |= is_mended || self.touched.contains(&key);
+            if space.take_unchanged(&key, &parsed) {
+                readings.push((key, text, Reading::Taken));
                 continue;
             }
-            work.push((key.clone(), parsed));
-            before.push((key.clone(), built));
-            readings.push((key, text, Reading::Taken));
+            let same_by = match may_wait {
+                true => self.with_space(|it| it.reports_same(&key, &parsed))?.flatten(),
+                false => None,
+            };
+            let reading = match same_by.filter(|it| self.may_wait_beside_others(&key, *it, &readings)) {
+                Some(same_by) => Reading::Waits(Waiting { text: text.clone(), parsed, same_by }),
+                None => {
+                    work.push((key.clone(), parsed));
+                    Reading::Taken
+                }
+            };
+            readings.push((key, text, reading));
         }
         if !work.is_empty() {
-            self.hand_in(work, before)?;
+            self.end_waiting(&mut readings, &mut work);
+            self.hand_in(work)?;
         }
         Ok(readings)
     }
 
-    /// Hands in what stands in files. Of each is said what it was before.
-    fn hand_in(&mut self, work: Vec<(Key, Parsed)>, before: Vec<(Key, Option<Arc<Built>>)>) -> Result<()> {
+    /// Whether a text may wait beside those that do. What is known by what the program has is known of one text alone.
+    fn may_wait_beside_others(&self, key: &Key, same_by: SameBy, readings: &[(Key, Arc<Text>, Reading)]) -> bool {
+        let before = self.documents.iter().filter(|it| it.0 != key).filter_map(|it| it.1.waits.as_ref());
+        let now = readings.iter().filter_map(|it| match &it.2 {
+            Reading::Waits(it) => Some(it),
+            _ => None,
+        });
+        before.chain(now).all(|it| it.same_by == SameBy::Names && same_by == SameBy::Names)
+    }
+
+    /// Takes all texts that wait among those that are handed in, which may name what stands in them.
+    fn end_waiting(&mut self, readings: &mut [(Key, Arc<Text>, Reading)], work: &mut Vec<(Key, Parsed)>) {
+        for (key, _, reading) in readings.iter_mut() {
+            match std::mem::replace(reading, Reading::Taken) {
+                Reading::Waits(it) => work.push((key.clone(), it.parsed)),
+                it => *reading = it,
+            }
+        }
+        let is_taken = |key: &Key| readings.iter().any(|it| it.0 == *key && matches!(it.2, Reading::Taken));
+        for (key, document) in self.documents.iter_mut().filter(|it| !is_taken(it.0)) {
+            if let Some(it) = document.waits.take() {
+                document.good = Some(it.text);
+                work.push((key.clone(), it.parsed));
+            }
+        }
+    }
+
+    /// Hands in what stands in files.
+    fn hand_in(&mut self, work: Vec<(Key, Parsed)>) -> Result<()> {
+        let built = |it: &Self, key: &Key| it.space.as_ref().and_then(|it| it.built(key).cloned());
+        let before: Vec<(Key, Option<Arc<Built>>)> =
+            work.iter().map(|(key, _)| (key.clone(), built(self, key))).collect();
         let work = std::cell::RefCell::new(work);
         // After a new start the texts are in it already.
         let resolved = self.with_space(|it| it.update_parsed(work.take()))?;
         self.needs_report |= resolved.is_some_and(|it| !it.is_empty());
         for (key, before) in before {
-            let after = self.space.as_ref().and_then(|it| it.built(&key));
-            self.needs_report |= match (&before, after) {
+            self.needs_report |= match (before, built(self, &key)) {
                 (Some(before), Some(after)) => before.json != after.json,
                 (before, after) => before.is_some() || after.is_some(),
             };
@@ -122,11 +166,13 @@ impl<W: Write> Server<W> {
     pub(super) fn flush(&mut self, may_wait: bool) -> Result<()> {
         let mut texts: Vec<Typed> = Vec::new();
         for (key, it) in &mut self.documents {
-            if it.is_dirty || it.waits.is_some() && !may_wait {
-                let parsed = it.waits.take().filter(|_| !it.is_dirty);
-                it.is_dirty = false;
-                texts.push((key.clone(), it.text.clone(), parsed));
-            }
+            let parse = || parse_text(&path_of_key(key), key, it.text.as_str());
+            let typed = it.is_dirty.then(parse);
+            let is_past = typed.as_ref().is_some_and(|it| it.error.is_none());
+            let waiting = if may_wait { None } else { it.waits.take() };
+            texts.extend(waiting.filter(|_| !is_past).map(|it| (key.clone(), it.text, it.parsed)));
+            texts.extend(typed.map(|parsed| (key.clone(), it.text.clone(), parsed)));
+            it.is_dirty = false;
         }
         texts.sort_by(|one, two| one.0.cmp(&two.0));
         for (key, text, reading) in self.read_texts(texts, may_wait)? {
@@ -134,7 +180,7 @@ impl<W: Write> Server<W> {
                 continue;
             };
             match reading {
-                Reading::Taken => document.good = Some(text),
+                Reading::Taken => (document.good, document.waits) = (Some(text), None),
                 Reading::Waits(it) => document.waits = Some(it),
                 Reading::Broken => {}
             }

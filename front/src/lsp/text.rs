@@ -124,6 +124,15 @@ impl Text {
         self.range_of(start..end.max(start))
     }
 
+    /// The range that a span of this text has in another that was made of it by an edit.
+    pub fn range_in(&self, other: &Text, span: Span) -> Value {
+        if std::ptr::eq(self, other) {
+            return self.range(span);
+        }
+        let [start, end] = [span.start, span.end].map(|it| self.moved(other, self.offset_of(it)));
+        other.range_of(start..end.max(start))
+    }
+
     /// A range of offsets for the editor.
     pub fn range_of(&self, range: Range<usize>) -> Value {
         let ((line, character), (end_line, end)) = (self.place(range.start), self.place(range.end));

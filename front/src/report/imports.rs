@@ -239,7 +239,7 @@ impl Workspace {
     }
 
     /// Whether a definition is one of a crate for which a stub stands.
-    pub(super) fn is_of_stub(&self, definition: &Value) -> bool {
+    pub(crate) fn is_of_stub(&self, definition: &Value) -> bool {
         let krate = definition["crate"].as_u64().and_then(|it| self.crates.all.get(it as usize));
         krate.is_some_and(|it| it.is_stub)
     }

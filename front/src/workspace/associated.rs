@@ -20,11 +20,11 @@ use crate::unit::{numbered, paths_of, place_json, quoted, steps_of, Built, Detai
 const MOST_ROUNDS: usize = 200;
 
 /// What a crate is made of: a file, a block, or what a call expands to.
-struct UnitAt {
-    built: Arc<Built>,
+pub(super) struct UnitAt {
+    pub built: Arc<Built>,
     /// The module or the block in which its items are.
-    place: Vec<Step>,
-    file: Key,
+    pub place: Vec<Step>,
+    pub file: Key,
     /// Where the outermost call stands that brings it.
     call: Option<Span>,
 }
@@ -73,7 +73,7 @@ pub(crate) struct Impl {
 
 impl Workspace {
     /// The files of a crate, the blocks in them, and what their calls expand to.
-    fn units(&self, krate: u32) -> Vec<UnitAt> {
+    pub(super) fn units(&self, krate: u32) -> Vec<UnitAt> {
         let state = &self.states[krate as usize];
         let mut made = Vec::new();
         for (number, (key, module)) in state.files.iter().enumerate() {

@@ -11,7 +11,7 @@ use crate::token::{has_word, is_of_word};
 const PLAIN: [&str; 8] = ["Const", "Enum", "Fn", "Static", "Struct", "Trait", "TypeAlias", "Union"];
 
 /// An edit of more names isn't looked through.
-const MOST_NAMES: usize = 50;
+pub(super) const MOST_NAMES: usize = 50;
 
 /// A longer name may be one that the program refuses.
 const MOST_OF_NAME: usize = 1000;
@@ -56,29 +56,37 @@ fn is_kept(node: &Value, others: &HashMap<Known, &Value>) -> bool {
 }
 
 /// Whether a visibility names no module by its name.
-fn is_plain_visibility(value: &Value) -> bool {
+pub(super) fn is_plain_visibility(value: &Value) -> bool {
     let is_word = |it: &str| matches!(it, "crate" | "self" | "super");
     value.is_string() || value.is_null() || value["in"].as_str().is_some_and(|it| it.split("::").all(is_word))
 }
 
+/// A node that comes or goes.
+pub(super) struct Changed<'a> {
+    /// The names of the inline modules around it in its file.
+    pub modules: Vec<&'a str>,
+    pub node: &'a Value,
+    /// Whether it comes.
+    pub is_new: bool,
+}
+
 /// What edits do.
 #[derive(Default)]
-struct Changes<'a> {
-    /// The names of the items that come, go or change.
-    names: BTreeSet<&'a str>,
+pub(super) struct Changes<'a> {
+    pub changed: Vec<Changed<'a>>,
     /// What stays as it is.
     kept: Vec<&'a Value>,
 }
 
 impl<'a> Changes<'a> {
-    /// Adds those of a file. None where something else is done.
-    fn add(&mut self, edit: &'a Edit) -> Option<()> {
+    /// Adds those of a file. None where what stays changes its order, or attributes of the file change.
+    pub fn add(&mut self, edit: &'a Edit) -> Option<()> {
         let (before, now) = (&edit.before["unit"], &edit.now["unit"]);
         self.kept.push(&now["attrs"]);
-        self.add_nodes(&before["nodes"], &now["nodes"]).filter(|()| before["attrs"] == now["attrs"])
+        self.add_nodes(&before["nodes"], &now["nodes"], &[]).filter(|()| before["attrs"] == now["attrs"])
     }
 
-    fn add_nodes(&mut self, before: &'a Value, now: &'a Value) -> Option<()> {
+    fn add_nodes(&mut self, before: &'a Value, now: &'a Value, modules: &[&'a str]) -> Option<()> {
         let (before, now) = (before.as_array()?, now.as_array()?);
         let by_known =
             |all: &'a [Value]| -> HashMap<Known<'a>, &'a Value> { all.iter().map(|it| (known(it), it)).collect() };
@@ -88,22 +96,30 @@ impl<'a> Changes<'a> {
         if !stayed.iter().map(|it| known(it)).eq(stays.iter().map(|it| known(it))) {
             return None;
         }
-        left.into_iter().chain(comes).try_for_each(|it| self.add_item(it))?;
+        let of = |all: Vec<&'a Value>, is_new| {
+            all.into_iter().map(move |node| Changed { modules: modules.to_vec(), node, is_new })
+        };
+        self.changed.extend(of(left, false).chain(of(comes, true)));
         for (was, is) in stayed.into_iter().zip(stays) {
             if was == is {
                 self.kept.push(is);
                 continue;
             }
             self.kept.extend(head(is).map(|it| it.1));
-            self.add_nodes(&was["nodes"], &is["nodes"])?;
+            let modules = [modules, &[is["name"].as_str()?]].concat();
+            self.add_nodes(&was["nodes"], &is["nodes"], &modules)?;
         }
         Some(())
     }
 
-    /// Adds the names of an item that looks none up.
-    fn add_item(&mut self, node: &'a Value) -> Option<()> {
-        self.names.extend(plain_names(node)?);
-        Some(())
+    /// Whether only items come, go or change whose names stand neither in what stays nor elsewhere.
+    pub fn are_unnamed(&self, stands_elsewhere: impl Fn(&str) -> bool) -> bool {
+        let names: Option<Vec<Vec<&str>>> = self.changed.iter().map(|it| plain_names(it.node)).collect();
+        let Some(names) = names.map(|it| it.into_iter().flatten().collect::<BTreeSet<&str>>()) else {
+            return false;
+        };
+        let stands = |name: &&str| self.kept.iter().any(|it| stands_in(it, name)) || stands_elsewhere(name);
+        names.len() <= MOST_NAMES && !names.iter().any(stands)
     }
 }
 
@@ -152,11 +168,7 @@ fn stands_in(value: &Value, word: &str) -> bool {
 /// Whether by these edits only items come, go or change whose names stand neither in the rest of these files nor elsewhere.
 pub(super) fn are_unnamed(edits: &[Edit], stands_elsewhere: impl Fn(&str) -> bool) -> bool {
     let mut changes = Changes::default();
-    if !edits.iter().all(|it| changes.add(it).is_some()) || changes.names.len() > MOST_NAMES {
-        return false;
-    }
-    let stands = |name: &&str| changes.kept.iter().any(|it| stands_in(it, name)) || stands_elsewhere(name);
-    !changes.names.iter().any(stands)
+    edits.iter().all(|it| changes.add(it).is_some()) && changes.are_unnamed(stands_elsewhere)
 }
 
 #[cfg(test)]

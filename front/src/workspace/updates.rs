@@ -11,11 +11,20 @@ use super::hand_in::{built_of, set_file};
 use super::left_out::left_out_of;
 use super::looked_at::{imports, looked_at};
 use super::recorded::caller_of;
-use super::unnamed::{are_unnamed, Edit};
+use super::unnamed::{Changes, Edit};
 use super::{Key, Made, Parsed, Sent, Workspace};
 use crate::syntax::Unit;
 use crate::token::Hash;
 use crate::unit::{build_without, quoted, Built, BuiltBlock, Derives, Without};
+
+/// By what it is known that an edit changes no report.
+#[derive(Clone, Copy, PartialEq, Eq, Debug)]
+pub enum SameBy {
+    /// The names that come or go stand nowhere else.
+    Names,
+    /// Nothing that the program has looks them up.
+    LookUps,
+}
 
 impl Workspace {
     /// The files that were looked for without being read as modules: those that weren't there, and what `include!` names.
@@ -161,36 +170,46 @@ impl Workspace {
         self.circular.is_empty() && (is_same || self.take_same(key, parsed))
     }
 
-    /// Whether a report would be the same, but for places, with what [`parse_text`] made in place of what a file holds: of
-    /// the file only such items come, go or change whose names stand in nothing else that may see them.
-    pub fn reports_same(&self, key: &Key, parsed: &Parsed) -> bool {
+    /// Whether a report would be the same, but for places, with what [`parse_text`] made in place of what a file holds, and
+    /// by what that is known.
+    pub fn reports_same(&mut self, key: &Key, parsed: &Parsed) -> Result<Option<SameBy>> {
         let of = self.crates_of(key);
         let (Some(sent), &[krate]) = (self.sent.get(key), &of[..]) else {
-            return false;
+            return Ok(None);
         };
         let state = &self.states[krate as usize];
         let is_once = state.files.iter().filter(|it| it.0 == *key).count() == 1;
         let are_whole = self.parsed.get(key).is_some_and(|it| it.error.is_none()) && parsed.error.is_none();
         let is_known = self.circular.is_empty() && self.refused.is_empty() && sent.replaced.is_empty();
         let is_same = |of: fn(&Unit) -> u64| of(&sent.unit) == of(&parsed.unit);
-        if !is_once || !are_whole || !is_known || !is_same(imports) || !is_same(looked_at) {
-            return false;
+        if !is_once || !are_whole || !is_known || !is_same(looked_at) {
+            return Ok(None);
         }
         // No report hangs on impls and on what is in traits.
         let without = Without { derives: sent.left_out, associated: true };
         let options = &self.crates.all[krate as usize].options;
-        let command = |it: &Unit| set_file(key, &build_without(it, options, &|_| None, without).json);
-        let Some(edit) = Edit::read(&command(&sent.unit), &command(&parsed.unit)) else {
-            return false;
+        let built = |it: &Unit| build_without(it, options, &|_| None, without);
+        let (before, now) = (built(&sent.unit), built(&parsed.unit));
+        let edit = Edit::read(&set_file(key, &before.json), &set_file(key, &now.json));
+        let mut changes = Changes::default();
+        let Some(()) = edit.as_ref().and_then(|it| changes.add(it)) else {
+            return Ok(None);
         };
         // A crate stands behind all that it stands on.
         let above = self.states[krate as usize..].iter().flat_map(|it| it.places.keys()).filter(|it| *it != key);
         let files: Vec<&Built> = above.filter_map(|it| self.built(it)).map(|it| &**it).collect();
         let is_above = |key: &str| caller_of(key).map_or(true, |it| it >= krate);
-        are_unnamed(&[edit], |name| {
-            let mut expansions = self.expansions.iter().filter(|it| is_above(it.0));
-            files.iter().any(|it| it.has_word(name)) || expansions.any(|it| it.1.built.has_word(name))
-        })
+        let are_unnamed = is_same(imports)
+            && changes.are_unnamed(|name| {
+                let mut expansions = self.expansions.iter().filter(|it| is_above(it.0));
+                files.iter().any(|it| it.has_word(name)) || expansions.any(|it| it.1.built.has_word(name))
+            });
+        if are_unnamed {
+            return Ok(Some(SameBy::Names));
+        }
+        let is_of_std = (krate as usize) < self.crates.of_std;
+        let is_same = !is_of_std && self.looks_up_same(krate, key, &changes, &now)?;
+        Ok(is_same.then_some(SameBy::LookUps))
     }
 
     /// The crates in which the file is a module, or in which a module looked for it.

@@ -1,0 +1,187 @@
+//! Edits of which it is known before the program has them that they change nothing of what is told.
+
+use std::path::Path;
+
+use cargo_nogsimat::workspace::{key_of, parse_text, SameBy, Workspace};
+
+use crate::common::{market, open, package, Dice};
+
+/// What is told, but for lines and columns.
+fn told(space: &mut Workspace) -> Vec<String> {
+    let report = space.report().unwrap();
+    let text = |it: &cargo_nogsimat::report::Diagnostic| {
+        format!("{}: {}: {}: {}: {:?}", it.place.file, it.kind, it.message, it.label, it.notes)
+    };
+    let mut all: Vec<String> = report.diagnostics.iter().map(text).collect();
+    all.sort();
+    all
+}
+
+/// By what it is known that a text changes nothing. Then the program has it, and tells the same if that is known.
+fn known(space: &mut Workspace, path: &Path, text: &str, why: &str) -> Option<SameBy> {
+    let key = key_of(path).unwrap();
+    let before = told(space);
+    let parsed = parse_text(path, &key, text);
+    let made = space.reports_same(&key, &parsed).unwrap();
+    space.update_text(path, text).unwrap();
+    if made.is_some() {
+        assert_eq!(told(space), before, "{why}");
+    }
+    made
+}
+
+const ROOT: &str = "mod a;\nmod b;\npub mod c;\nmod d;\npub use a::f;\n\
+    macro_rules! m { () => { pub struct M; pub use crate::a::Later as FromM; } }\nm!();\n\
+    use crate::nothing;\nuse std::none::Such;\n";
+const A: &str = "pub fn f() {}\npub struct Later;\npub mod k { pub struct Deep; pub enum Way { Up, Down } }\n";
+const B: &str = "pub use crate::a::k::*;\nuse crate::c::Shared;\nuse self::Way::Up as Upward;\n\
+    #[derive(Clone)] struct T;\n#[unknown] fn g() {}\n";
+const C: &str = "pub struct Shared;\npub fn helper() {}\npub(in crate::c) mod within {}\n";
+const D: &str = "use super::*;\nuse self::c::helper as other;\nuse super::super::above;\n\
+    mod twice { pub fn first() {} }\nmod twice { pub fn second() {} }\nmod once { pub fn third() {} }\n";
+
+const BY_NAMES: Option<SameBy> = Some(SameBy::Names);
+const BY_LOOK_UPS: Option<SameBy> = Some(SameBy::LookUps);
+
+/// Each edit of what is behind the texts above: the file, what stands there, what comes in its place (behind the text
+/// where nothing stands there), and by what it is known that the same is told.
+const EDITS: [(&str, &str, &str, Option<SameBy>); 48] = [
+    // Names that stand nowhere else.
+    ("c", "", "fn alone() {}\n", BY_NAMES),
+    ("c", "pub fn helper() {}", "pub fn helper() {} pub struct Alone;", BY_NAMES),
+    // Imports whose names are looked up in other modules alone.
+    ("c", "", "use crate::a::Later;\n", BY_LOOK_UPS),
+    ("c", "", "pub(crate) use crate::a::{f, k::Deep as Shallow};\n", BY_LOOK_UPS),
+    ("c", "", "use crate::a::k::{self, Way::{Up, Down as _}};\n", BY_LOOK_UPS),
+    ("c", "", "use crate::a::Later as nothing;\n", BY_LOOK_UPS),
+    ("c", "", "use crate::a::Later as unknown;\n", BY_LOOK_UPS),
+    ("c", "", "use crate::a::Later as helper;\n", None),
+    ("c", "", "mod inner { pub fn one() {} }\nuse crate::a::f;\n", None),
+    ("a", "pub struct Deep;", "use crate::c::Shared; pub struct Deep;", BY_LOOK_UPS),
+    ("b", "", "use self::Shared as Again;\n", BY_LOOK_UPS),
+    ("b", "use crate::c::Shared;", "use crate::c::{helper, Shared};", BY_LOOK_UPS),
+    ("b", "use crate::c::Shared;", "pub use crate::c::Shared;", BY_LOOK_UPS),
+    ("b", "use crate::c::Shared;", "", BY_LOOK_UPS),
+    ("b", "", "use std::clone::Clone;\n", BY_LOOK_UPS),
+    ("lib", "", "use a::Later;\n", BY_LOOK_UPS),
+    ("lib", "", "use crate::a::f as helper;\n", BY_LOOK_UPS),
+    ("lib", "", "use std::collections::HashMap;\n", BY_LOOK_UPS),
+    ("lib", "use std::none::Such;", "", BY_LOOK_UPS),
+    ("lib", "use std::none::Such;", "use std::none::Other;", BY_LOOK_UPS),
+    // Items whose names are.
+    ("a", "", "pub struct Shared;\n", BY_LOOK_UPS),
+    ("a", "pub struct Deep;", "pub struct Deep; pub struct Shared;", BY_LOOK_UPS),
+    ("c", "", "pub enum Way { Up }\nconst f: u8 = 1;\n", BY_LOOK_UPS),
+    ("b", "struct T;", "struct T; struct helper;", BY_LOOK_UPS),
+    // What isn't reached, what something looks up, and what more than a name hangs on.
+    ("c", "", "use crate::a::none;\n", None),
+    ("c", "", "use crate::a::k::Way::Left;\n", None),
+    ("c", "", "use crate::a::Later::none;\n", None),
+    ("c", "", "use crate::m;\n", None),
+    ("c", "", "use f;\n", None),
+    ("c", "", "use nothing as _;\n", None),
+    ("c", "", "use crate::a::k::*;\n", None),
+    ("c", "", "#[cfg(all())] use crate::a::f;\n", None),
+    ("c", "", "use crate::a::{f::{self}};\n", None),
+    ("c", "pub struct Shared;", "", None),
+    ("c", "", "use crate::a::f as within;\n", BY_LOOK_UPS),
+    ("a", "", "use crate::a::f as c;\n", None),
+    ("lib", "", "use crate::a::Later as nothing;\n", None),
+    ("lib", "use crate::nothing;", "", None),
+    ("lib", "", "use crate::c::helper as a;\n", None),
+    ("lib", "", "use crate::c::Shared as c;\n", None),
+    ("lib", "", "use crate::c::Shared as above;\n", BY_LOOK_UPS),
+    ("a", "pub enum Way { Up, Down }", "pub enum Way { Down }", None),
+    ("a", "pub struct Deep;", "pub struct Deep; pub struct Shared; pub struct c;", None),
+    ("d", "pub fn first() {}", "pub fn first() {} use crate::a::f as g;", None),
+    ("d", "pub fn second() {}", "pub fn second() {} use crate::a::f as g;", None),
+    ("d", "pub fn third() {}", "pub fn third() {} use crate::a::f as g;", BY_LOOK_UPS),
+    ("b", "", "use crate::a::f as unknown;\n", None),
+    ("b", "", "use crate::a::Later as Clone;\n", None),
+];
+
+#[test]
+fn edits_that_change_nothing_of_what_is_told() {
+    let texts = [("lib", ROOT), ("a", A), ("b", B), ("c", C), ("d", D)];
+    let files: Vec<(String, &str)> = texts.iter().map(|(name, text)| (format!("src/{name}.rs"), *text)).collect();
+    let files: Vec<(&str, &str)> = files.iter().map(|(name, text)| (&**name, *text)).collect();
+    let folder = package(&files);
+    let mut space = open(folder.path());
+    for (name, from, to, wanted) in EDITS {
+        let text = texts.iter().find(|it| it.0 == name).unwrap().1;
+        let edited = if from.is_empty() { format!("{text}{to}") } else { text.replace(from, to) };
+        assert_ne!(edited, text, "{to}");
+        let path = folder.path().join(format!("src/{name}.rs")).canonicalize().unwrap();
+        let why = format!("{name}: {from} {to}");
+        assert_eq!(known(&mut space, &path, &edited, &why), wanted, "{why}");
+        let back = known(&mut space, &path, text, &format!("back from {why}"));
+        assert!(back.is_none() || wanted.is_some(), "back from {why}");
+    }
+}
+
+const FILES: [&str; 6] = [
+    "shop/src/lib.rs",
+    "shop/src/model.rs",
+    "shop/src/price.rs",
+    "shop/src/report.rs",
+    "shop/src/report/table.rs",
+    "codec/src/lib.rs",
+];
+
+/// What is written into files of the example at random.
+const LINES: [&str; 26] = [
+    "pub fn more() {}",
+    "pub struct More(u8);",
+    "pub struct Order;",
+    "pub enum Price { Free }",
+    "pub fn tax() {}",
+    "use crate::price::Price;",
+    "pub use crate::price::{tax, Price as Cost};",
+    "use crate::model::Order as Price;",
+    "use crate::model::{self, Order};",
+    "pub use crate::report::table as model;",
+    "use crate::none;",
+    "use crate::more;",
+    "use super::more as most;",
+    "use super::{Order as Ordered, model::Order as _};",
+    "use self::Price::Free;",
+    "use crate::model::*;",
+    "pub use super::*;",
+    "pub use std::collections::HashMap as Map;",
+    "use std::fmt::Debug;",
+    "pub use codec::Codec as Coded;",
+    "use codec::traced;",
+    "mod inner { pub use super::more; pub use crate::model::Order; }",
+    "use self::inner::Order as Inner;",
+    "use shop::model::Order;",
+    "fn f() { use crate::model::Order; }",
+    "pub(crate) use codec as price;",
+];
+
+#[test]
+fn random_edits_of_the_example() {
+    let folder = market();
+    let mut space = open(folder.path());
+    let mut dice = Dice(45);
+    let paths: Vec<_> = FILES.iter().map(|it| folder.path().join(it).canonicalize().unwrap()).collect();
+    let texts: Vec<String> = paths.iter().map(|it| std::fs::read_to_string(it).unwrap()).collect();
+    let mut lines: Vec<Vec<&str>> = vec![Vec::new(); FILES.len()];
+    let mut by_look_ups = 0;
+    for round in 0..600 {
+        let at = dice.below(FILES.len());
+        let is_removed = !lines[at].is_empty() && dice.below(3) == 0;
+        if is_removed {
+            let line = dice.below(lines[at].len());
+            lines[at].remove(line);
+        } else {
+            lines[at].push(LINES[dice.below(LINES.len())]);
+        }
+        if lines[at].len() > 6 {
+            lines[at].clear();
+        }
+        let text = format!("{}{}\n", texts[at], lines[at].join("\n"));
+        let why = format!("round {round}: {}: {:?}", FILES[at], lines);
+        by_look_ups += usize::from(known(&mut space, &paths[at], &text, &why) == BY_LOOK_UPS);
+    }
+    assert!(by_look_ups > 60, "{by_look_ups}");
+}
