@@ -68,6 +68,10 @@ to_any q keys among = list_any-from_Contains pending_laws q keys among
 from_any : (q : PendingBlock) (keys : List PendingBlock) → list_any (is_at (pending_cmp q)) keys ≡ true → Contains keys q
 from_any q keys there = Contains-from_any {eq = eq_by_cmp pending_cmp} pending_same q keys there
 
+-- where none is known to wait, nothing is said
+pub none_known : (s : SessionState) (p : Known) → p ≡ None → AreKnownPending s p
+none_known s p none = subst (λ (q : Known). AreKnownPending s q) (sym none) tt
+
 -- where they are all that wait, no other is among them
 pub pending_all : (s : SessionState) (keys : List PendingBlock) → ArePending s keys → HasAllPending s keys
 pending_all s keys h = record { all = h.all; own = h.own }

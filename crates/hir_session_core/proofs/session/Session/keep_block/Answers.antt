@@ -1,10 +1,11 @@
 -- It was found which runs asked for something that is altered, and nothing is kept of what depends on those.
-use Rattle.std.proofs.Common.{◌∙◌, ap, sym, Some, option_map}
+use Rattle.std.proofs.Common.{◌∙◌, ap, sym, subst, Some, option_map}
 use Rattle.hir_session_state.specs.HirItemTree.Source.{source_view}
 use Rattle.hir_session_state.specs.SessionState.{SessionState, state_of}
 use Rattle.hir_session_state.specs.SourceEdits.{of_block}
 use Rattle.hir_session_state.specs.Standing.{block_map, block_number}
-use Rattle.hir_session_core.proofs.Awaiting.{known_set}
+use Rattle.hir_session_core.specs.Progress.{AreKnownPending, Known}
+use Rattle.hir_session_core.proofs.Awaiting.{known_set, none_known}
 use Rattle.hir_session_core.proofs.Sound.{edited_sound, edited_becomes}
 use Rattle.hir_session_core.proofs.session.Session.keep_block.Goals as goal
 
@@ -19,9 +20,9 @@ await_fallen-requires c =
     let own = c.block_id-own.ensures.value ∙ ap (λ (t : SessionState). option_map (block_map block.holder.krate) (block_number t.tables block))
     (sym c.self.view_is) in record {
       but = rw c.in_ok-set_block.ensures.ok (known_set old block c.block_id-own.result own (source_view c.args.source) c.forget_listing-fell.new.kept
-          c.self.inside.pending c.settle.new.pending c.forget_listing-fell.result c.in_ok-one.one c.has-is_kept.result c.in_ok-one.ensures.value
+          c.take-known.result c.settle.new.pending c.forget_listing-fell.result c.in_ok-one.one c.has-is_kept.result c.in_ok-one.ensures.value
           c.forget_listing-fell.ensures.fell c.forget_listing-fell.ensures.forgotten.fewer c.has-is_kept.ensures.value c.settle.ensures.settled
-          c.self.invariant.2);
+          (subst (λ (p : Known). AreKnownPending old p) (sym c.take-known.ensures.value) c.self.invariant.2));
     }
 
 pub invariant_of-self-2 : goal.invariant_of-self-2
@@ -29,7 +30,7 @@ invariant_of-self-2 c = (
   rw c.in_ok-set_block.ensures.ok (edited_sound _ (of_block c.args.block (Some (source_view c.args.source))) _ _ c.self.invariant.0
       (c.in_ok-hits.ensures.hit _ c.self.invariant.1) c.forget_listing-fell.ensures.forgotten),
   c.forget_listing-fell.ensures.exact,
-  tt,
+  none_known _ _ c.take-known.ensures.after,
 )
 
 pub returns-clause-ok : goal.returns-clause-ok
