@@ -1,4 +1,7 @@
 // The limits of this process, and how far it has written its files, as Linux tells them in `/proc`. Nothing here allocates.
+ghost use Rattle.std.specs.Prelude.{IfSome};
+ghost use Rattle.hir_session_main.specs.Labels.{StandsBehind};
+
 use std::fs::{self, File, Files};
 use std::io::Read;
 
@@ -6,7 +9,9 @@ use std::io::Read;
 const LIMITS: &str = "/proc/self/limits";
 
 /// The number that stands behind a label, if one does.
-fn number_behind(text: &str, label: &str) -> Option<u64> {
+fn number_behind(text: &str, label: &str) -> Option<u64>
+    ensures found { IfSome result (StandsBehind label.now text.now) }
+{
     let (_, rest) = text.split_once(label)?;
     rest.split_whitespace().next()?.parse().ok()
 }
