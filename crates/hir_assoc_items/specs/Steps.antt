@@ -13,8 +13,8 @@ use Rattle.hir_collector_rules.specs.Calls.{call_tree}
 use Rattle.hir_collector_rules.specs.Keys.{Environment, IsMeant}
 use Rattle.hir_collector_rules.specs.Moves.{OnceGrown}
 use Rattle.hir_collector_rules.specs.Workspace.{Workspace}
-use Rattle.hir_assoc_items.specs.AssocItems.{Becomes, ComesUp, ContainerValue, FlattensTo, HasNoNumber, IsNumberOfCall, ListingValue, Reaches, call_error}
-use Rattle.hir_assoc_items.specs.AssocItems.{call_source, container_of, followed_by, listing_of}
+use Rattle.hir_assoc_items.specs.AssocItems.{Becomes, ComesUp, ContainerValue, FlattensTo, HasNoNumber, IsNumberOfCall, IsUnknown, ListingValue, Reaches, call_error, first_missing}
+use Rattle.hir_assoc_items.specs.AssocItems.{call_source, container_of, followed_by, inner_paths, listing_of}
 use Rattle.hir_assoc_items.specs.Written.{WrittenValue, item_node, written_view}
 use Rattle.hir_assoc_items.specs.declared.container.Container.{Container}
 use Rattle.hir_assoc_items.specs.declared.error.AssocItemsError.{AssocItemsError}
@@ -49,6 +49,7 @@ pub record SeesCall (tables : TablesValue) (w : Workspace) (c : ContainerValue) 
   pub numbered : OnceGrown tables w (λ env. IsNumberOfCall env c node makro id)
   pub told : OnceGrown tables w (λ env. error ≡ call_error env c node makro)
   pub brought : OnceGrown tables w (λ env. source ≡ call_source env c id)
+  pub first : OnceGrown tables w (λ env. first_missing c (inner_paths env c node makro) ≡ None)
   pub meant : IsSome (source_of tables (call_tree id))
 
 -- an item was taken: it adds this, and these stand in its place
@@ -82,4 +83,4 @@ pub record LeadsToUnknown (env : Environment) (c : ContainerValue) (i : WrittenV
   pub path : Path
   pub makro : MacroId
   pub reaches : Reaches c i path makro
-  pub unknown : ¬ IsMeant env.tables makro
+  pub unknown : IsUnknown env.tables c makro

@@ -2,6 +2,7 @@
 ghost use Rattle.std.specs.Prelude.{◌≡◌, IfOk, option_map};
 ghost use Rattle.hir_collector_rules.specs.Calls.{call_kind, call_style, has_expansion, is_builtin_for, is_call, path_of_call, style_of, suits, waiting_item};
 
+use crate::inner_paths::InnerPaths;
 use crate::shared_tree::SharedTree;
 use crate::site::Site;
 use hir_base::ast_id::{AstId, AttrId};
@@ -55,6 +56,13 @@ pub struct MacroDirective {
     /// The call, or the item that has the attribute.
     pub ast_id: AstId,
     pub kind: MacroDirectiveKind,
+}
+
+/// An eager macro that a call reached, and the paths that it asks to have resolved before the call is expanded.
+#[derive(Drop)]
+pub struct EagerMacro {
+    pub makro: MacroId,
+    pub inner: InnerPaths,
 }
 
 /// What became of what waits for a macro.

@@ -27,8 +27,8 @@ fn item_of(call: &MacroDirective) -> Option<AstId>
     }
 }
 
-/// Has the call at the place, if it waits, watch the slots that its path reads, an attribute besides the item that it stands
-/// on.
+/// Has the call at the place, if it waits, watch the slots that its path reads, and those of the first path that its macro
+/// asks for and that reaches nothing; an attribute besides the item that it stands on.
 pub fn watch(
     run: &DefCollector,
     world: WorldPart<'_>,
@@ -48,7 +48,28 @@ pub fn watch(
     };
     let slots = run.call_slots(world, call);
     queue.watch(i, slots, run.map().module_count(), item_of(call))?;
-    Ok(())
+    if run.eager_at(i).is_empty() {
+        return Ok(());
+    }
+    watch_missing(run, world, queue, i, call)
+}
+
+/// Has a call that waits for a path which its macro asks for watch besides the slots that this reads.
+fn watch_missing(
+    run: &DefCollector,
+    world: WorldPart<'_>,
+    queue: &mut CallQueue,
+    i: usize,
+    call: &MacroDirective,
+) -> Result<(), AllocError> {
+    let Some(makro) = run.called_macro(world, call) else {
+        return Ok(());
+    };
+    let Some(path) = run.missing_path(world, i, call, makro) else {
+        return Ok(());
+    };
+    let slots = run.inner_slots(world, call.site.home, path);
+    queue.watch(i, slots, run.map().module_count(), None)
 }
 
 /// Queues the calls that have read what has changed, which is forgotten then.

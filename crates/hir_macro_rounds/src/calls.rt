@@ -27,7 +27,9 @@ ghost use Rattle.hir_mod_collector.specs.HirCollectorState.Waiting.{IsNotedBesid
 use crate::resume::{give_up, skip};
 use either::Either;
 use hir_base::macro_kind::MacroId;
-use hir_call_expansion::expansion::{Expansion, call_site, is_meant, look_at_call, report_failed};
+use hir_call_expansion::expansion::{
+    CallLook, Expansion, call_site, is_meant, look_at_call, report_failed,
+};
 use hir_call_queue::{CallQueue, Changed};
 use hir_collector_derives::derives::{
     bring_helpers, builtin_impl, derive_builtin, drop_call, drop_reached,
@@ -36,7 +38,7 @@ use hir_import_resolution::ImportQueue;
 use hir_macro_calls::due::{Due, due_of};
 use hir_macro_calls::queue::{requeue, wake, watch};
 use hir_mod_collector::hir_collector_imports::settling;
-use hir_mod_collector::hir_collector_rules::macro_directive::{Fate, MacroDirective};
+use hir_mod_collector::hir_collector_rules::macro_directive::{EagerMacro, Fate, MacroDirective};
 use hir_mod_collector::hir_collector_rules::source_database::SourceDatabase;
 use hir_mod_collector::hir_collector_rules::start::{CollectError, STEP_LIMIT, StepError};
 use hir_mod_collector::hir_collector_state::def_collector::DefCollector;
@@ -57,7 +59,7 @@ fn expand_known<D: SourceDatabase>(
     i: usize,
     call: &MacroDirective,
     makro: MacroId,
-) -> Result<(), StepError>
+) -> Result<bool, CollectError>
     requires ready { IsReady locations.old (part_of world) (core_in run.old) }
     requires called { CallsMacro (part_of world) (at_rest (core_in run.old)) i call.now makro }
     requires shallow { call.now.site.level < (core_in run.old).map.crate_data.recursion_limit }
@@ -71,7 +73,14 @@ fn expand_known<D: SourceDatabase>(
     ensures handled { OnOk result (slice_get (core_in run.new).fates i ≡ Some Fate.Handled) }
     ensures many { result ≡ Err StepError.TooMany → OnceGrown locations.new (D.workspace db.old) (λ env. IsSpent env (part_of world.entry) (at_rest (core_in run.old))) }
 {
-    let Expansion { id, error, source } = look_at_call(run, db, world, locations, call, makro)?;
+    let Expansion { id, error, source } = match look_at_call(run, db, world, locations, call, makro)? {
+        CallLook::Expands(expansion) => expansion,
+        CallLook::Waits(inner) => {
+            run.meet_eager(i, EagerMacro { makro, inner })?;
+            run.tick()?;
+            return Ok(false);
+        }
+    };
     let site = call_site(call, id)?;
     run.end_call(i, Fate::Handled);
     run.note_call(call, id)?;
@@ -80,7 +89,7 @@ fn expand_known<D: SourceDatabase>(
     run.tick()?;
     let ids = source.tree().top_level_items();
     walk_all(run, db, world, locations, &source, &site, ids)?;
-    Ok(())
+    Ok(true)
 }
 
 /// Expands what waits at the place, which reaches a macro, unless the source that writes the macro has no number.
@@ -92,7 +101,7 @@ fn expand<D: SourceDatabase>(
     i: usize,
     call: &MacroDirective,
     makro: MacroId,
-) -> Result<(), CollectError>
+) -> Result<bool, CollectError>
     requires ready { IsReady locations.old (part_of world) (core_in run.old) }
     requires called { CallsMacro (part_of world) (at_rest (core_in run.old)) i call.now makro }
     requires shallow { call.now.site.level < (core_in run.old).map.crate_data.recursion_limit }
@@ -109,8 +118,7 @@ fn expand<D: SourceDatabase>(
     if !is_meant(locations, makro) {
         return Err(CollectError::UnknownSource);
     }
-    expand_known(run, db, world, locations, i, call, makro)?;
-    Ok(())
+    expand_known(run, db, world, locations, i, call, makro)
 }
 
 /// Does what is to be done about what waits at the place.
@@ -152,7 +160,7 @@ fn do_due<D: SourceDatabase>(
             derive_builtin(run, world, i, call, makro, imp)?;
         }
         Due::Drops(makro) => drop_reached(run, world, i, call, makro)?,
-        Due::Reaches(makro) => expand(run, db, world, locations, i, call, makro)?,
+        Due::Reaches(makro) => return expand(run, db, world, locations, i, call, makro),
     }
     Ok(true)
 }
@@ -179,7 +187,7 @@ fn try_call<D: SourceDatabase>(
     let Some(call) = run.waiting(i) else {
         return Ok(false);
     };
-    let due = due_of(run, world, call);
+    let due = due_of(run, world, i, call);
     if let Due::Nothing = due {
         return Ok(false);
     }

@@ -146,6 +146,10 @@ fn with_command(
             push_entry(out, entry)?;
             read(alloc, &entry.source, out)
         }
+        Command::Edit(Edit::SetInnerPaths { key, inner, error }) => {
+            push_inner(out, key, inner)?;
+            push_error(out, error)
+        }
         Command::Edit(Edit::RemoveExpansion { key }) => push_key(out, key),
         Command::Edit(
             Edit::SetCrate {
