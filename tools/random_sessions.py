@@ -152,6 +152,8 @@ class Crates:
         if self.random.random() < 0.1:
             fields["styles"] = self.choose([["attr"], ["bang", "derive"]])
         if self.random.random() < 0.3:
+            fields["expander"] = "builtin_eager"
+        if self.random.random() < 0.3:
             return self.node("MacroDef", **fields)
         if self.random.random() < 0.3:
             fields["attrs"] = [{"path": "macro_export"}]
@@ -197,7 +199,16 @@ class Crates:
         self.next_id = 0
         self.leaf, self.expansion, self.calls = False, True, 2
         unit = {"nodes": self.items(2)} if self.random.random() < 0.95 else "broken"
-        return unit, "e" if self.random.random() < 0.1 else None
+        return unit, "e" if self.random.random() < 0.1 else None, None
+
+    def inner_of(self):
+        """Paths that a macro asks to have resolved first, with an error now and then."""
+        paths = [self.choose(MACROS) if self.random.random() < 0.8 else self.path() + "::" + self.choose(MACROS) for _ in range(self.choose([0, 1, 1, 1, 2]))]
+        return None, "e" if self.random.random() < 0.1 else None, paths
+
+    def reached(self, count):
+        """The macros that such paths may reach."""
+        return tuple((self.random.randrange(count), self.choose(TEXTS)) for _ in range(self.choose([1, 1, 1, 2])))
 
     def crates(self, count):
         found = []
@@ -244,8 +255,11 @@ def with_one_text_changed(unit, drawn):
 
 
 def entry(key, found):
-    caller, of, text, given = key
-    command = {"do": "set expansion", "key": {"caller": caller, "crate": of, "text": text, "call": "bang", "input": given}, "unit": found[0]}
+    caller, of, text, given, reached = key
+    command = {"do": "set expansion", "key": {"caller": caller, "crate": of, "text": text, "call": "bang", "input": given}}
+    if reached:
+        command["key"]["reached"] = [{"crate": krate, "text": inner} for krate, inner in reached]
+    command.update({"unit": found[0]} if found[2] is None else {"inner": found[2]})
     return command if found[1] is None else {**command, "error": found[1]}
 
 
@@ -253,11 +267,16 @@ def edit_of_expansions(entries, count, drawn):
     """Sets an expansion, or takes one away; now and then one that isn't there."""
     caller = drawn.random.randrange(count)
     of = caller if drawn.random.random() < 0.7 else drawn.random.randrange(count)
-    key = (caller, of, drawn.choose(TEXTS), drawn.choose(INPUTS))
+    roll = drawn.random.random()
+    key = (caller, of, drawn.choose(TEXTS), drawn.choose(INPUTS), drawn.reached(count) if roll < 0.35 else ())
     if drawn.random.random() < 0.2:
         entries.pop(key, None)
-        return {**entry(key, (None, None)), "do": "remove expansion"}
-    entries[key] = drawn.expansion_of() if drawn.random.random() < 0.9 or not entries else drawn.choose(list(entries.values()))
+        return {**entry(key, (None, None, None)), "do": "remove expansion"}
+    if 0.35 <= roll < 0.6:
+        entries[key] = drawn.inner_of()
+        return entry(key, entries[key])
+    others = [found for found in entries.values() if found[2] is None]
+    entries[key] = drawn.expansion_of() if drawn.random.random() < 0.9 or not others else drawn.choose(others)
     return entry(key, entries[key])
 
 
