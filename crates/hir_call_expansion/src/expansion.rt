@@ -325,6 +325,17 @@ fn ask_texts(run: &mut DefCollector, macros: &[MacroId]) -> Result<(), AllocErro
     Ok(())
 }
 
+/// Asks whether an expansion is there, and for what stands beside its items.
+fn ask_entry(
+    run: &mut DefCollector,
+    locations: &mut Tables,
+    key: ExpansionKey,
+) -> Result<(), StepError> {
+    let entry = locations.intern_entry(key)?;
+    run.ask(Key::Expansion(entry))?;
+    Ok(())
+}
+
 /// Looks up the expansion of a call by its key, with the call's number, and asks for it.
 fn look_up<D: SourceDatabase>(
     run: &mut DefCollector,
@@ -374,8 +385,7 @@ fn look_behind_paths<D: SourceDatabase>(
 ) -> Result<CallLook, CollectError> {
     let reached = reached_by(run, world, call.site.home, inner.as_slice())?;
     let Some(macros) = reached else {
-        let entry = locations.intern_entry(key)?;
-        run.ask(Key::Expansion(entry))?;
+        ask_entry(run, locations, key)?;
         return Ok(CallLook::Waits(inner));
     };
     if !are_meant(locations, &macros) {
@@ -383,8 +393,7 @@ fn look_behind_paths<D: SourceDatabase>(
     }
     let texts = texts_of(run, db, world, locations, &macros)?;
     let grown = grown_key(&key, texts)?;
-    let entry = locations.intern_entry(key)?;
-    run.ask(Key::Expansion(entry))?;
+    ask_entry(run, locations, key)?;
     ask_texts(run, &macros)?;
     Ok(CallLook::Expands(look_up(run, db, locations, call, grown)?))
 }
