@@ -151,7 +151,7 @@ class Crates:
         fields = {"name": self.choose(MACROS), "text": self.choose(TEXTS)}
         if self.random.random() < 0.1:
             fields["styles"] = self.choose([["attr"], ["bang", "derive"]])
-        if self.random.random() < 0.3:
+        if self.random.random() < 0.5:
             fields["expander"] = "builtin_eager"
         if self.random.random() < 0.3:
             return self.node("MacroDef", **fields)
@@ -206,9 +206,9 @@ class Crates:
         paths = [self.choose(MACROS) if self.random.random() < 0.8 else self.path() + "::" + self.choose(MACROS) for _ in range(self.choose([0, 1, 1, 1, 2]))]
         return None, "e" if self.random.random() < 0.1 else None, paths
 
-    def reached(self, count):
+    def reached(self, paths, caller, count):
         """The macros that such paths may reach."""
-        return tuple((self.random.randrange(count), self.choose(TEXTS)) for _ in range(self.choose([1, 1, 1, 2])))
+        return tuple((caller if self.random.random() < 0.7 else self.random.randrange(count), self.choose(TEXTS)) for _ in paths)
 
     def crates(self, count):
         found = []
@@ -264,20 +264,29 @@ def entry(key, found):
 
 
 def edit_of_expansions(entries, count, drawn):
-    """Sets an expansion, or takes one away; now and then one that isn't there."""
+    """Sets an expansion, or takes one away; now and then one that isn't there. Where it lists paths, often that which it grows to as well."""
     caller = drawn.random.randrange(count)
     of = caller if drawn.random.random() < 0.7 else drawn.random.randrange(count)
     roll = drawn.random.random()
-    key = (caller, of, drawn.choose(TEXTS), drawn.choose(INPUTS), drawn.reached(count) if roll < 0.35 else ())
+    key = (caller, of, drawn.choose(TEXTS), drawn.choose(INPUTS), ())
+    waiting = [other for other, found in entries.items() if found[2]]
+    if roll < 0.35 and waiting:
+        key = drawn.choose(waiting)
+        key = key[:4] + (drawn.reached(entries[key][2], key[0], count),)
     if drawn.random.random() < 0.2:
         entries.pop(key, None)
-        return {**entry(key, (None, None, None)), "do": "remove expansion"}
-    if 0.35 <= roll < 0.6:
+        return [{**entry(key, (None, None, None)), "do": "remove expansion"}]
+    if not key[4] and roll < 0.6:
         entries[key] = drawn.inner_of()
-        return entry(key, entries[key])
+        commands = [entry(key, entries[key])]
+        while entries[key][2] and drawn.random.random() < 0.7:
+            grown = key[:4] + (drawn.reached(entries[key][2], caller, count),)
+            entries[grown] = drawn.expansion_of()
+            commands.append(entry(grown, entries[grown]))
+        return commands
     others = [found for found in entries.values() if found[2] is None]
     entries[key] = drawn.expansion_of() if drawn.random.random() < 0.9 or not others else drawn.choose(others)
-    return entry(key, entries[key])
+    return [entry(key, entries[key])]
 
 
 def edit_of_files(files, crates, drawn):
@@ -366,7 +375,7 @@ def session(seed):
     for _ in range(drawn.random.randint(10, 36)):
         roll = drawn.random.random()
         if roll < 0.3:
-            commands.append(edit_of_expansions(entries, len(crates), drawn))
+            commands += edit_of_expansions(entries, len(crates), drawn)
         elif roll < 0.45:
             commands.append(edit_of_crates(crates, drawn))
             commands += [{"do": "status", "at": [number]} for number in range(len(crates))]
