@@ -1,6 +1,5 @@
 //! The diagnostics of a run.
-ghost use Rattle.std.specs.Prelude.{◌≡◌, ◌++◌, [], IfOk, OnOk, map};
-ghost use Rattle.std.specs.List.{drop};
+ghost use Rattle.std.specs.Prelude.{◌≡◌, ◌++◌, [], IfOk, OnOk, drop, map};
 ghost use Rattle.hir_collector_rules.specs.HirBase.Cfg.{cfg_view};
 ghost use Rattle.hir_collector_rules.specs.HirNameres.WorldParts.{part_of};
 ghost use Rattle.hir_collector_rules.specs.CrateTop.{with_names};
