@@ -1,11 +1,16 @@
 //! What macro calls, derives and attributes expand to: all that an expansion depends on is asked for, and then the expansion.
-ghost use Rattle.std.specs.Prelude.{◌≡◌, ◌<◌, true, false, [], IfOk, None, OnOk, Some, option_map, unwrap_or};
+ghost use Rattle.std.specs.Prelude.{◌≡◌, ◌<◌, List, true, false, [], Contains, IfOk, IsSome, None, OnOk, Some, map, option_map, unwrap_or};
+ghost use Rattle.std.specs.List.{All};
+ghost use Rattle.std.specs.declared.alloc.Global.{Global};
+ghost use Rattle.std.specs.declared.vec.Vec.{Vec};
+ghost use Rattle.hir_collector_state.specs.HirBase.ModPath.{Path};
+ghost use Rattle.hir_collector_state.specs.HirIds.declared.macro_kind.MacroId.{MacroId};
 ghost use Rattle.hir_collector_state.specs.HirItemTree.SyntaxIds.{node_id};
 ghost use Rattle.hir_collector_state.specs.HirTables.SourcePlaces.{expansion_value};
 ghost use Rattle.hir_collector_state.specs.HirTables.Tables.{KeepsTables};
 ghost use Rattle.hir_collector_state.specs.HirNameres.WorldParts.{part_of};
-ghost use Rattle.hir_collector_state.specs.HirCollectorRules.CallMoves.{SeesCall};
-ghost use Rattle.hir_collector_state.specs.HirCollectorRules.Calls.{AreCallsPlaced, Expanding, IsMeantCall, call_site, called_text, error_of, expansion_of_call, text_readings};
+ghost use Rattle.hir_collector_state.specs.HirCollectorRules.Calls.{AreCallsPlaced, InnerMacro, IsMeantCall, asked_first, call_site, called_text, error_of};
+ghost use Rattle.hir_collector_state.specs.HirCollectorRules.Calls.{expansion_of_call, first_missing, inner_macro, inner_readings, text_by, text_readings};
 ghost use Rattle.hir_collector_state.specs.HirCollectorRules.declared.macro_directive.MacroDirective.{MacroDirective};
 ghost use Rattle.hir_collector_state.specs.HirCollectorRules.ItemIds.{module_id};
 ghost use Rattle.hir_collector_state.specs.HirCollectorRules.Keys.{IsMeant, input_at, macro_key, macro_tree, source_in, text_at, text_of};
@@ -15,6 +20,7 @@ ghost use Rattle.hir_collector_state.specs.HirCollectorRules.State.{core_in};
 ghost use Rattle.hir_collector_state.specs.HirCollectorRules.Steps.{failing, keys_read, with_keys};
 ghost use Rattle.hir_collector_state.specs.HirCollectorRules.Workspace.{entry_look};
 ghost use Rattle.hir_collector_state.specs.Waiting.{IsNoted};
+ghost use Rattle.hir_call_expansion.specs.Looks.{IsLook};
 
 use hir_base::ast_id::{AstId, AstKind, HirFileId, MacroCallId};
 use hir_base::ids::{Crate, HasModule};

@@ -5,7 +5,7 @@ use Rattle.std.proofs.Common.{sym, ap, subst, arith, append_assoc, Contains}
 use Rattle.std.specs.List.{All}
 use Rattle.std.specs.Option.{option_and_then}
 use Rattle.std.specs.Prelude.{IsSome, option_map}
-use Rattle.std.proofs.lemmas.List.Elements.{Contains-append_cases}
+use Rattle.std.proofs.lemmas.List.Elements.{All-head, All-tail, Contains-append_cases}
 use Rattle.hir_nameres.specs.HirBase.ModPath.{Path}
 use Rattle.hir_nameres.specs.HirIds.declared.ids.AdtId.{AdtId}
 use Rattle.hir_nameres.specs.HirIds.declared.ast_id.AstId.{AstId}
@@ -371,7 +371,8 @@ module _ (tables : TablesValue) where
       → HasMeaning tables key
   inner_keys_meant [] others all behind key h = behind key h
   inner_keys_meant (i ∷ is) others all behind key h =
-      text_key_meant i.makro i.text (inner_readings is ++ others) all.0 (inner_keys_meant is others all.1 behind) key
+      text_key_meant i.makro i.text (inner_readings is ++ others) (All-head (λ (j : InnerMacro). IsMeant tables j.makro) i is all)
+      (inner_keys_meant is others (All-tail (λ (j : InnerMacro). IsMeant tables j.makro) i is all) behind) key
       (subst (λ (rs : List Reading). Contains (keys_read rs) key) (append_assoc (text_readings i.makro i.text) (inner_readings is) others) h)
 
   -- and in those of what is resolved first

@@ -2,7 +2,7 @@
 use Rattle.std.proofs.Common.{◌≡◌, ◌∙◌, ℕ, zero, suc, ◌<◌, false, List, [], ◌∷◌, ◌++◌, map, Option, Some, None, slice_get, refl, sym, ap, subst, arith}
 use Rattle.std.proofs.Common.{Contains}
 use Rattle.std.specs.Prelude.{IsSome, option_map}
-use Rattle.std.specs.List.{All}
+use Rattle.std.proofs.lemmas.List.Elements.{All-weaker}
 use Rattle.std.specs.Option.{option_map_or, option_to_list}
 use Rattle.hir_nameres.specs.HirIds.declared.ast_id.AstId.{AstId}
 use Rattle.hir_nameres.specs.HirIds.declared.ast_id.AttrId.{AttrId}
@@ -75,13 +75,12 @@ module _ (tables grown : TablesValue) (kept : KeepsTables tables grown) where
     first = grown_kept (expansion_of_call own (call_style d) makro x.text x.input) x.grown h.first;
   }
     where
-      macros_kept : (is : List InnerMacro) → All (λ (i : InnerMacro). IsMeant tables i.makro) is → All (λ (i : InnerMacro). IsMeant grown i.makro) is
-      macros_kept [] all = tt
-      macros_kept (i ∷ is) all = (macro_kept i.makro all.0, macros_kept is all.1)
-
       grown_kept : (key : ExpansionValue) (g : Option Grown) → IsGrownFrom tables key g → IsGrownFrom grown key g
       grown_kept key None h = tt
-      grown_kept key (Some g) h = (kept.entries g.entry.0 key h.0, macros_kept g.macros h.1)
+      grown_kept key (Some g) h = (
+        kept.entries g.entry.0 key h.0,
+        All-weaker (λ (i : InnerMacro). IsMeant tables i.makro) (λ (i : InnerMacro). IsMeant grown i.makro) (λ i. macro_kept i.makro) g.macros h.1,
+      )
 
   pub eager_kept : (own : Crate) (d : MacroDirective) (makro : MacroId) (x : EagerLook) → IsNumberedEager tables own d makro x → IsNumberedEager grown own d
       makro x

@@ -1,5 +1,5 @@
 -- What a part of a run does with macro calls.
-use Rattle.std.specs.Prelude.{◌≡◌, ◌<◌, ◌≤◌, ℕ, Bool, true, false, Contains, List, ◌++◌, IsSome, length, Option, None, Some, slice_get}
+use Rattle.std.specs.Prelude.{◌≡◌, ◌<◌, ◌≤◌, ℕ, Bool, true, false, List, ◌++◌, IsSome, length, Option, None, Some, slice_get}
 use Rattle.hir_nameres.specs.HirIds.declared.macro_kind.MacroId.{MacroId}
 use Rattle.hir_item_tree.specs.SourceTree.{SourceTreeValue}
 use Rattle.hir_tables.specs.Tables.{TablesValue}

@@ -576,7 +576,7 @@ acts finished s (expands_call i d makro x) =
     ends i Handled ∷ goes_on (visits_over (call_site d x.id) x.tree.tree.items) ∷ notes d.site.home (invocation_of d x.id)
     ∷ bringing d.ast_id (helpers_brought finished s.core.map d makro (Some (either.Left x.id))) ++ failing (module_id s.core.map d.site.home) d
     (error_of x.there)
-acts finished s (meets_macro i d makro x) = meets_eager i (record { makro = makro; inner = x.there.inner }) ∷ []
+acts finished s (meets_macro i d makro x) = meets_eager i (record { makro = makro; inner = asked_first makro x.there }) ∷ []
 acts finished s (drops_call i d) = ends i Handled ∷ []
 acts finished s (drops_reached i d makro) = ends i Handled ∷ bringing d.ast_id (helpers_brought finished s.core.map d makro None)
 acts finished s (derives_builtin i d makro imp) =

@@ -1,5 +1,5 @@
 -- When does a run meet a source that has no number?
-use Rattle.std.specs.Prelude.{◌≡◌, ◌<◌, ℕ, Contains, IsSome, Some}
+use Rattle.std.specs.Prelude.{◌≡◌, ◌<◌, ℕ, IsSome, Some}
 use Rattle.hir_nameres.specs.HirBase.ModPath.{Path}
 use Rattle.hir_nameres.specs.HirIds.declared.macro_kind.MacroId.{MacroId}
 use Rattle.hir_tables.specs.Tables.{TablesValue, source_of}

@@ -19,7 +19,7 @@ use hir_collector_rules::hir_nameres::nameres::DefMap;
 use hir_collector_rules::hir_nameres::nameres::diagnostics::DefDiagnostic;
 use hir_collector_rules::hir_nameres::nameres::local_def_map::LocalDefMap;
 use hir_collector_rules::hir_nameres::world::part::WorldPart;
-use hir_collector_rules::macro_directive::{EagerMacro, Fate, MacroDirective};
+use hir_collector_rules::macro_directive::{EagerMacro, EagerMacros, Fate, MacroDirective};
 use hir_item_tree::shared_path::SharedPath;
 use hir_mod_dir::Candidate;
 use std::alloc::{AllocError, Global};
@@ -187,7 +187,7 @@ pub fn report_unresolved(
 }
 
 /// The eager macros that the first of some calls reached, and those of the others.
-fn split_eager(eager: &[Vec<EagerMacro>]) -> (&[EagerMacro], &[Vec<EagerMacro>])
+fn split_eager(eager: &[EagerMacros]) -> (&[EagerMacro], &[EagerMacros])
     ensures first { result.0.now ≡ eager_among eager.now 0 }
     ensures others { result.1.now ≡ drop 1 eager.now }
 {
@@ -205,7 +205,7 @@ pub fn unresolved_calls(
     local: &LocalDefMap,
     calls: &[MacroDirective],
     fates: &[Fate],
-    eager: &[Vec<EagerMacro>],
+    eager: &[EagerMacros],
 ) -> Result<Vec<DefDiagnostic>, AllocError>
     ensures value { IfOk result (λ told. told.items ≡ unresolved_calls (part_of world.entry) local.now map.now calls.now fates.now eager.now) }
 {

@@ -1,13 +1,13 @@
 //! Where a run stands, and what each change leaves.
 #![tactic(auto, unfolding(hir_collector_rules::specs::State::core_in))]
 
-ghost use Rattle.std.specs.Prelude.{◌≡◌, ◌<◌, ◌≤◌, true, false, ◌∷◌, ◌++◌, [], Some, length, map, option_map, slice_get, slice_set, unwrap_or, IfNone, IfOk, IfSome, None, OnOk};
+ghost use Rattle.std.specs.Prelude.{◌≡◌, ◌<◌, ◌≤◌, true, false, ◌∷◌, ◌++◌, [], Some, length, option_map, slice_get, slice_set, IfNone, IfOk, IfSome, None, OnOk};
 ghost use Rattle.hir_collector_rules.specs.HirDefMapRules.State.{with_enum, new_id, new_module, with_declared, with_use, with_impl, with_extern_block, with_extern_crate, with_unnamed_const};
 ghost use Rattle.hir_collector_rules.specs.HirNameres.WorldParts.{part_of};
 ghost use Rattle.hir_collector_rules.specs.HirDefMapRules.Macros.{with_diagnostic, with_macro_def};
 ghost use Rattle.hir_collector_rules.specs.HirImportRules.Visibilities.{visibility_in};
 ghost use Rattle.hir_collector_rules.specs.HirImportRules.Changed.{nothing};
-ghost use Rattle.hir_collector_rules.specs.State.{at_rest, core_in, counted, eager_at, with_asked, with_bound, with_calls, with_eager, with_fate, with_imports, with_local, with_map};
+ghost use Rattle.hir_collector_rules.specs.State.{at_rest, core_in, counted, eager_among, eager_at, with_asked, with_bound, with_calls, with_eager, with_fate, with_imports, with_local, with_map};
 ghost use Rattle.hir_collector_rules.specs.ItemIds.{container_of, module_id};
 ghost use Rattle.hir_collector_rules.specs.Items.{own_visibility};
 ghost use Rattle.hir_collector_rules.specs.Calls.{IsWaiting};
@@ -49,7 +49,7 @@ use hir_collector_rules::hir_scope::glob_imports::PerNsGlobImports;
 use hir_collector_rules::hir_scope::item_scope::ItemScope;
 use hir_collector_rules::hir_scope::per_ns::PerNs;
 use hir_collector_rules::hir_scope::visibility::Visibility;
-use hir_collector_rules::macro_directive::{EagerMacro, Fate, MacroDirective};
+use hir_collector_rules::macro_directive::{EagerMacro, EagerMacros, Fate, MacroDirective};
 use hir_collector_rules::site::{ItemHead, Site};
 use hir_collector_rules::source_database::{Dependency, Key};
 use hir_collector_rules::start::{STEP_LIMIT, Start, StepError};
@@ -88,7 +88,7 @@ pub struct DefCollector {
     pub taken: Vec<Taken>,
     pub calls: Vec<MacroDirective>,
     pub fates: Vec<Fate>,
-    pub eager: Vec<Vec<EagerMacro>>,
+    pub eager: Vec<EagerMacros>,
     pub settled: usize,
     pub is_proc_macro: bool,
     pub exported: Vec<ExportedFunction>,
@@ -99,7 +99,7 @@ pub struct DefCollector {
 }
 
 impl Model for DefCollector {
-    ghost use Rattle.std.specs.Prelude.{◌≤◌, map};
+    ghost use Rattle.std.specs.Prelude.{◌≤◌};
     ghost use Rattle.hir_collector_rules.specs.Codes.{coded_run};
     ghost use Rattle.hir_collector_rules.specs.State.{Run};
     ghost use Rattle.hir_collector_rules.specs.declared.start.TheConstants.{STEP_LIMIT};
@@ -119,7 +119,7 @@ impl Model for DefCollector {
       taken = r.taken.items;
       calls = r.calls.items;
       fates = r.fates.items;
-      eager = map (λ seen. seen.items) r.eager.items;
+      eager = r.eager.items;
       settled = r.settled;
       is_proc_macro = r.is_proc_macro;
       exported = r.exported.items;
@@ -164,20 +164,14 @@ fn end(fates: &mut Vec<Fate>, i: usize, fate: Fate)
 }
 
 /// Adds an eager macro to those of the call at the place, if there is one.
-fn add_at(
-    eager: &mut Vec<Vec<EagerMacro>>,
-    i: usize,
-    seen: EagerMacro,
-) -> Result<(), AllocError>
-    ensures ok { OnOk result (map (λ s. s.items) eager.new.items
-        ≡ slice_set (map (λ s. s.items) eager.old.items) i (unwrap_or (slice_get (map (λ s. s.items) eager.old.items) i) [] ++ seen ∷ [])) }
+fn add_at(eager: &mut Vec<EagerMacros>, i: usize, seen: EagerMacro) -> Result<(), AllocError>
+    ensures ok { OnOk result (eager.new.items ≡ slice_set eager.old.items i (eager_among eager.old.items i ++ seen ∷ [])) }
 {
-    let Some(of_call) = eager.get_mut(i) else {
+    if i >= eager.len() {
         drop(seen);
         return Ok(());
-    };
-    of_call.push(seen)?;
-    Ok(())
+    }
+    eager[i].add(seen)
 }
 
 impl DefCollector {
@@ -583,7 +577,8 @@ impl DefCollector {
     {
         self.calls.push(call)?;
         self.fates.push(Fate::Waits)?;
-        self.eager.push(Vec::new(self.allocator()))?;
+        let none = EagerMacros::new(self.allocator());
+        self.eager.push(none)?;
         Ok(())
     }
 
