@@ -215,13 +215,13 @@ first_missing finished local m home [] = None
 first_missing finished local m home (path ∷ paths) =
     or_missing path (inner_macro finished local m home path) (first_missing finished local m home paths)
 
--- what a macro asked for that a call reached before, if it did
+-- what a macro asked for where a call reached it, if one did
 abbrev pub is_same_macro : MacroId → MacroId → Bool
 is_same_macro = macro_equality.ghosts.eq
 
 abbrev pub asked_before : List EagerMacro → MacroId → List Path
 asked_before [] makro = []
-asked_before (e ∷ es) makro = cond (is_same_macro e.makro makro) e.inner (asked_before es makro)
+asked_before (e ∷ es) makro = cond (is_same_macro e.makro makro) (e.inner ++ asked_before es makro) (asked_before es makro)
 
 -- the path for which a call that is left over is told: the first that the macro which it reaches asks for and that reaches nothing, or else its own
 abbrev pub told_by : Maps → Local → Map → MacroDirective → List EagerMacro → Option MacroId → Path

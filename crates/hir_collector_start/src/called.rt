@@ -1,7 +1,7 @@
 //! Which macro the path of what waits reaches, and those that such a macro asks to have resolved first.
-ghost use Rattle.std.specs.Prelude.{◌≡◌, IfOk, option_map};
+ghost use Rattle.std.specs.Prelude.{◌≡◌, None, cond, option_map};
 ghost use Rattle.hir_collector_rules.specs.HirNameres.WorldParts.{part_of};
-ghost use Rattle.hir_collector_rules.specs.Calls.{asked_before, called_macro, first_missing, inner_macro, is_eager, is_eager_by, macro_among, suited, told_path};
+ghost use Rattle.hir_collector_rules.specs.Calls.{asked_before, called_macro, first_missing, inner_macro, is_eager, is_eager_by, is_same_macro, macro_among, suited, told_path};
 
 use hir_base::ids::ModuleId;
 use hir_base::macro_kind::{MacroExpander, MacroId};
@@ -128,18 +128,44 @@ pub fn first_missing<'p>(
     None
 }
 
-/// The paths that a macro asked for, where it is among these.
-pub fn asked_before(seen: &[EagerMacro], makro: MacroId) -> &[ModPath]
-    ensures value { result.now ≡ asked_before seen.now makro }
+/// The first of the paths that an eager macro asked for, where it is among those that a call reached.
+fn missing_by<'e>(
+    world: WorldPart<'_>,
+    map: &DefMap,
+    local: &LocalDefMap,
+    home: u32,
+    seen: &'e EagerMacro,
+    makro: MacroId,
+) -> Option<&'e ModPath>
+    ensures value { option_map (λ path. path.now) result ≡ cond (is_same_macro seen.now.makro makro)
+        (first_missing (part_of world.entry) local.now map.now home seen.now.inner) None }
+{
+    if seen.makro == makro {
+        first_missing(world, map, local, home, seen.inner.as_slice())
+    } else {
+        None
+    }
+}
+
+/// The first of the paths that a macro asked for where a call reached it that reaches nothing.
+pub fn missing_of<'e>(
+    world: WorldPart<'_>,
+    map: &DefMap,
+    local: &LocalDefMap,
+    home: u32,
+    seen: &'e [EagerMacro],
+    makro: MacroId,
+) -> Option<&'e ModPath>
+    ensures value { option_map (λ path. path.now) result ≡ first_missing (part_of world.entry) local.now map.now home (asked_before seen.now makro) }
 {
     let mut left = seen;
     'next: while let [first, others @ ..] = left {
-        if first.makro == makro {
-            return first.inner.as_slice();
+        if let Some(path) = missing_by(world, map, local, home, first, makro) {
+            return Some(path);
         }
         left = others;
     }
-    &[]
+    None
 }
 
 /// The path for which a call that is left over is told: the first that its macro asks for and that reaches nothing, or else
@@ -156,8 +182,7 @@ pub fn told_path<'c>(
     let Some(makro) = called_macro(world, map, local, call) else {
         return call.path();
     };
-    let paths = asked_before(seen, makro);
-    match first_missing(world, map, local, call.site.home, paths) {
+    match missing_of(world, map, local, call.site.home, seen, makro) {
         Some(path) => path,
         None => call.path(),
     }

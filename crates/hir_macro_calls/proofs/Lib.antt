@@ -1,4 +1,6 @@
 pub mod Resuming
+pub mod Meeting
+pub mod Watching
 pub mod UpToDate
 pub mod Queued
 pub mod GivingUp

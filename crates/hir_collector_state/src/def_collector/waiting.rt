@@ -26,7 +26,7 @@ use hir_collector_rules::hir_nameres::nameres::path_resolution::slots::PathSlots
 use hir_collector_rules::hir_nameres::nameres::path_resolution::{BuiltinShadowMode, ResolveMode};
 use hir_collector_rules::hir_nameres::world::part::WorldPart;
 use hir_collector_rules::macro_directive::{MacroDirective, MacroDirectiveKind};
-use hir_collector_start::called::{asked_before, called_macro, first_missing, inner_macro};
+use hir_collector_start::called::{called_macro, inner_macro, missing_of};
 use hir_collector_start::helpers::is_helper;
 use std::alloc::AllocError;
 
@@ -125,8 +125,14 @@ impl DefCollector {
         ensures value { option_map (λ path. path.now) result ≡ first_missing (part_of world.entry) (core_in self.now).local (core_in self.now).map call.now.site.home
             (asked_before (eager_at (core_in self.now) i) makro) }
     {
-        let paths = asked_before(self.eager_at(i), makro);
-        first_missing(world, &self.map, &self.local, call.site.home, paths)
+        missing_of(
+            world,
+            &self.map,
+            &self.local,
+            call.site.home,
+            self.eager_at(i),
+            makro,
+        )
     }
 
     /// Whether what waits is an attribute, and inert by now: a helper.
