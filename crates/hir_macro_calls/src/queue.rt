@@ -1,5 +1,5 @@
 //! The queue of calls, between tries.
-ghost use Rattle.std.specs.Prelude.{◌≡◌, ◌<◌, None, OnOk, Some, length, slice_get};
+ghost use Rattle.std.specs.Prelude.{◌≡◌, ◌<◌, None, OnOk, Some, length, option_map, slice_get};
 ghost use Rattle.hir_collector_state.specs.HirDefMapRules.State.{IsInOrder};
 ghost use Rattle.hir_collector_state.specs.HirNameres.WorldParts.{part_of};
 ghost use Rattle.hir_worklist.specs.Queue.{count_of};
@@ -8,9 +8,11 @@ ghost use Rattle.hir_call_queue.specs.Waking.{GoesOn, IsWoken, is_apart, worklis
 ghost use Rattle.hir_collector_state.specs.HirCollectorRules.Calls.{LeadsNowhere, waiting_item};
 ghost use Rattle.hir_collector_state.specs.HirCollectorRules.declared.macro_directive.MacroDirective.{MacroDirective};
 ghost use Rattle.hir_collector_state.specs.HirCollectorRules.State.{at_rest, core_in};
+ghost use Rattle.hir_macro_calls.specs.Due.{missing_at};
 ghost use Rattle.hir_collector_imports.specs.Waiting.{IsBetweenPasses, IsStale, IsUpToDate, LiesApart, item_of};
 
 use hir_base::ast_id::AstId;
+use hir_base::mod_path::ModPath;
 use hir_call_queue::CallQueue;
 use hir_collector_state::def_collector::DefCollector;
 use hir_collector_state::hir_collector_rules::macro_directive::MacroDirective;
@@ -23,6 +25,24 @@ fn item_of(call: &MacroDirective) -> Option<AstId>
 {
     match call.waiting_item() {
         Some(_) => Some(call.ast_id),
+        None => None,
+    }
+}
+
+/// The first path that reaches nothing of those that the macro which a call at the place reaches was seen to ask for.
+fn missing_at<'a>(
+    run: &'a DefCollector,
+    world: WorldPart<'_>,
+    i: usize,
+    call: &MacroDirective,
+) -> Option<&'a ModPath>
+    ensures value { option_map (λ path. path.now) result ≡ missing_at (part_of world.entry) (core_in run.now) i call.now }
+{
+    if run.eager_at(i).is_empty() {
+        return None;
+    }
+    match run.called_macro(world, call) {
+        Some(makro) => run.missing_path(world, i, call, makro),
         None => None,
     }
 }
@@ -48,28 +68,12 @@ pub fn watch(
     };
     let slots = run.call_slots(world, call);
     queue.watch(i, slots, run.map().module_count(), item_of(call))?;
-    if run.eager_at(i).is_empty() {
-        return Ok(());
-    }
-    watch_missing(run, world, queue, i, call)
-}
-
-/// Has a call that waits for a path which its macro asks for watch besides the slots that this reads.
-fn watch_missing(
-    run: &DefCollector,
-    world: WorldPart<'_>,
-    queue: &mut CallQueue,
-    i: usize,
-    call: &MacroDirective,
-) -> Result<(), AllocError> {
-    let Some(makro) = run.called_macro(world, call) else {
+    let Some(path) = missing_at(run, world, i, call) else {
         return Ok(());
     };
-    let Some(path) = run.missing_path(world, i, call, makro) else {
-        return Ok(());
-    };
-    let slots = run.inner_slots(world, call.site.home, path);
-    queue.watch(i, slots, run.map().module_count(), None)
+    let inner = run.inner_slots(world, call.site.home, path);
+    queue.watch(i, inner, run.map().module_count(), None)?;
+    Ok(())
 }
 
 /// Queues the calls that have read what has changed, which is forgotten then.
