@@ -40,7 +40,7 @@ use Rattle.hir_collector_rules.specs.Changes.{Change, lists, makes, gives_varian
 use Rattle.hir_collector_rules.specs.Changes.{takes_textual, defines, describes, helps, lists_derive, notes, exports, uses_macros, tells, goes_on, act, on_map}
 use Rattle.hir_collector_rules.specs.Changes.{perform, with_builtin_derive}
 use Rattle.hir_collector_rules.specs.Invocations.{with_invocation}
-use Rattle.hir_collector_rules.specs.Steps.{Rule, drops_item, awaits_attribute, lists_derives, faults_derive, exports_macro, reaches_call, rests, expands_call}
+use Rattle.hir_collector_rules.specs.Steps.{Rule, drops_item, awaits_attribute, lists_derives, faults_derive, exports_macro, reaches_call, rests, expands_call, meets_macro}
 use Rattle.hir_collector_rules.specs.Steps.{drops_call, drops_reached, derives_builtin, skips_attribute, falls_back, defines_rules, defines_macro}
 use Rattle.hir_collector_rules.specs.Steps.{closes_module, declares_item, declares_enum, lists_constant, lists_impl, opens_module, opens_file, drops_file}
 use Rattle.hir_collector_rules.specs.Steps.{misses_file, enters_block, reaches_imports, reaches_crate, resolves_imports, May, acts, after, asking, Step, Steps}
@@ -198,6 +198,7 @@ only_declares finished s (defines_macro site head name expander helpers rest) =
     declares (tt, (tt, (tt, (tt, (tt, fine_reporting OnlyDeclares _ _ expander (λ t. tt) _)))))
 only_declares finished s (lists_derives v at a adt paths call rest) = declares (tt, (tt, (tt, tt)))
 only_declares finished s (exports_macro site head name d e rest) = declares (tt, (tt, (tt, (tt, (tt, (tt, (tt, tt)))))))
+only_declares finished s (meets_macro i d makro x) = declares (tt, tt)
 only_declares finished s rests = declares (tt, tt)
 only_declares finished s (expands_call i d makro x) =
     declares (tt, (tt, (tt, fine_expanding OnlyDeclares _ (λ t helper. tt) _ _ d (error_of x.there) (λ t text. tt) _)))
