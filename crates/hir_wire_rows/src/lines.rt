@@ -2,7 +2,7 @@
 use crate::answers::{answer_below, answer_in, places_with};
 use crate::crates::{push_crate, push_dependencies, push_front, push_options};
 use crate::diagnostics::{diagnostics_below, diagnostics_of};
-use crate::keys::{push_entry, push_key};
+use crate::keys::{push_entry, push_error, push_inner, push_key};
 use crate::parts::push_parts;
 use crate::places::{push_block, push_impl, push_place, push_trait};
 use hir_base::cfg_options::CfgOptions;
