@@ -42,11 +42,11 @@ module _ (finished : Maps) (old : Core) (eager : List (List EagerMacro)) (asked 
     stands = rest.stands;
   }
 
-  waited_before : (i : ℕ) (d : MacroDirective) → IsWaiting (at_rest met) i d → IsWaiting (at_rest old) i d
+  pub waited_before : (i : ℕ) (d : MacroDirective) → IsWaiting (at_rest met) i d → IsWaiting (at_rest old) i d
   waited_before i d waiting = record { call = waiting.call; waits = waiting.waits }
 
   module _ (kept : (i : ℕ) (e : EagerMacro) → Contains (eager_at old i) e → Contains (eager_among eager i) e) where
-    lacks_met : (i : ℕ) (d : MacroDirective) → LacksMacro finished old i d → LacksMacro finished met i d
+    pub lacks_met : (i : ℕ) (d : MacroDirective) → LacksMacro finished old i d → LacksMacro finished met i d
     lacks_met i d (reaches_none nowhere) = reaches_none nowhere
     lacks_met i d (lacks_inner makro by path called known same among missing) = lacks_inner makro by path called (kept i by known) same among missing
 

@@ -39,7 +39,7 @@ use Rattle.hir_collector_imports.proofs.Outside.{apart-Steps}
 -- ---- what a call has seen
 
 -- what was read in vain was so where more is known of eager macros
-vain_later : (finished : Maps) (local : Local) (m : Map) (few more : List EagerMacro) (d : MacroDirective) (seen : List PathSlot)
+pub vain_later : (finished : Maps) (local : Local) (m : Map) (few more : List EagerMacro) (d : MacroDirective) (seen : List PathSlot)
     → ((e : EagerMacro) → Contains few e → Contains more e) → ReadsInVain finished local m few d seen → ReadsInVain finished local m more d seen
 vain_later finished local m few more d seen keeps (reaches_none nowhere read) = reaches_none nowhere read
 vain_later finished local m few more d seen keeps (lacks_inner makro by path called known same among missing read) =

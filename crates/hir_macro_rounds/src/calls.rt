@@ -50,7 +50,8 @@ use hir_tables::Tables;
 pub const ROUND_LIMIT: u32 = 8192;
 
 /// Expands what waits at the place, which reaches a macro whose source has a number: notes the call in its module, and handles
-/// the items of its expansion, with all that is in them.
+/// the items of its expansion, with all that is in them. Where the macro asks for a path first that reaches nothing, notes
+/// the paths that it asks for. Whether it expanded.
 fn expand_known<D: SourceDatabase>(
     run: &mut DefCollector,
     db: &mut D,
@@ -70,8 +71,9 @@ fn expand_known<D: SourceDatabase>(
     ensures placed { AreCallsPlaced locations.old → AreCallsPlaced locations.new }
     ensures ok { OnOk result (OnceGrown locations.new (D.workspace db.old) (λ env. Steps env (part_of world.entry) (at_rest (core_in run.old)) (at_rest (core_in run.new)))) }
     ensures noted { OnOk result (IsNotedBeside (part_of world.entry) run.old run.new) }
-    ensures handled { OnOk result (slice_get (core_in run.new).fates i ≡ Some Fate.Handled) }
-    ensures many { result ≡ Err StepError.TooMany → OnceGrown locations.new (D.workspace db.old) (λ env. IsSpent env (part_of world.entry) (at_rest (core_in run.old))) }
+    ensures tried { IfOk result (λ done. TriesCall (part_of world.entry) (core_in run.old) (core_in run.new) i done) }
+    ensures many { result ≡ Err CollectError.TooMany → OnceGrown locations.new (D.workspace db.old) (λ env. IsSpent env (part_of world.entry) (at_rest (core_in run.old))) }
+    ensures unknown { result ≡ Err CollectError.UnknownSource → ReachesUnknownSource locations.new (part_of world.entry) (at_rest (core_in run.old)) }
 {
     let Expansion { id, error, source } = match look_at_call(run, db, world, locations, call, makro)? {
         CallLook::Expands(expansion) => expansion,
@@ -92,7 +94,8 @@ fn expand_known<D: SourceDatabase>(
     Ok(true)
 }
 
-/// Expands what waits at the place, which reaches a macro, unless the source that writes the macro has no number.
+/// Expands what waits at the place, which reaches a macro, unless a source that writes the macro has no number, or one of
+/// those that it asks for first. Whether it expanded.
 fn expand<D: SourceDatabase>(
     run: &mut DefCollector,
     db: &mut D,
@@ -111,7 +114,7 @@ fn expand<D: SourceDatabase>(
     ensures placed { AreCallsPlaced locations.old → AreCallsPlaced locations.new }
     ensures ok { OnOk result (OnceGrown locations.new (D.workspace db.old) (λ env. Steps env (part_of world.entry) (at_rest (core_in run.old)) (at_rest (core_in run.new)))) }
     ensures noted { OnOk result (IsNotedBeside (part_of world.entry) run.old run.new) }
-    ensures handled { OnOk result (slice_get (core_in run.new).fates i ≡ Some Fate.Handled) }
+    ensures tried { IfOk result (λ done. TriesCall (part_of world.entry) (core_in run.old) (core_in run.new) i done) }
     ensures many { result ≡ Err CollectError.TooMany → OnceGrown locations.new (D.workspace db.old) (λ env. IsSpent env (part_of world.entry) (at_rest (core_in run.old))) }
     ensures unknown { result ≡ Err CollectError.UnknownSource → ReachesUnknownSource locations.new (part_of world.entry) (at_rest (core_in run.old)) }
 {
