@@ -6,21 +6,23 @@ ghost use Rattle.std.specs.declared.vec.Vec.{Vec};
 ghost use Rattle.hir_collector_state.specs.HirBase.ModPath.{Path};
 ghost use Rattle.hir_collector_state.specs.HirIds.declared.macro_kind.MacroId.{MacroId};
 ghost use Rattle.hir_collector_state.specs.HirItemTree.SyntaxIds.{node_id};
+ghost use Rattle.hir_collector_state.specs.HirIds.declared.ast_id.EntryId.{EntryId};
+ghost use Rattle.hir_collector_state.specs.HirTables.Interning.{IsFull};
 ghost use Rattle.hir_collector_state.specs.HirTables.SourcePlaces.{expansion_value};
-ghost use Rattle.hir_collector_state.specs.HirTables.Tables.{KeepsTables};
+ghost use Rattle.hir_collector_state.specs.HirTables.Tables.{KeepsTables, call_at, entry_at};
 ghost use Rattle.hir_collector_state.specs.HirNameres.WorldParts.{part_of};
-ghost use Rattle.hir_collector_state.specs.HirCollectorRules.Calls.{AreCallsPlaced, InnerMacro, IsMeantCall, asked_first, call_site, called_text, error_of};
+ghost use Rattle.hir_collector_state.specs.HirCollectorRules.Calls.{AreCallsPlaced, InnerMacro, IsMeantCall, asked_first, call_key, call_kind, call_loc, call_site, called_text, error_of};
 ghost use Rattle.hir_collector_state.specs.HirCollectorRules.Calls.{expansion_of_call, first_missing, inner_macro, inner_readings, text_by, text_readings};
 ghost use Rattle.hir_collector_state.specs.HirCollectorRules.declared.macro_directive.MacroDirective.{MacroDirective};
 ghost use Rattle.hir_collector_state.specs.HirCollectorRules.ItemIds.{module_id};
 ghost use Rattle.hir_collector_state.specs.HirCollectorRules.Keys.{IsMeant, input_at, macro_key, macro_tree, source_in, text_at, text_of};
 ghost use Rattle.hir_collector_state.specs.HirCollectorRules.Moves.{Makes, OnceGrown};
-ghost use Rattle.hir_collector_state.specs.HirCollectorRules.NumberedOut.{LacksExpansion};
-ghost use Rattle.hir_collector_state.specs.HirCollectorRules.State.{core_in};
+ghost use Rattle.hir_collector_state.specs.HirCollectorRules.NumberedOut.{IsCallNumberedOut, LacksExpansion};
+ghost use Rattle.hir_collector_state.specs.HirCollectorRules.State.{core_in, with_asked};
 ghost use Rattle.hir_collector_state.specs.HirCollectorRules.Steps.{failing, keys_read, with_keys};
 ghost use Rattle.hir_collector_state.specs.HirCollectorRules.Workspace.{entry_look};
 ghost use Rattle.hir_collector_state.specs.Waiting.{IsNoted};
-ghost use Rattle.hir_call_expansion.specs.Looks.{IsLook};
+ghost use Rattle.hir_call_expansion.specs.Looks.{IsLook, IsLookBehind, LacksBehind};
 
 use hir_base::ast_id::{AstId, AstKind, HirFileId, MacroCallId};
 use hir_base::ids::{Crate, HasModule};
@@ -336,7 +338,13 @@ fn ask_entry(
     run: &mut DefCollector,
     locations: &mut Tables,
     key: ExpansionKey,
-) -> Result<(), StepError> {
+) -> Result<(), StepError>
+    ensures kept { KeepsTables locations.old locations.new }
+    ensures calls { locations.new.calls ≡ locations.old.calls }
+    ensures ok { OnOk result ((entry : EntryId) × (entry_at locations.new entry ≡ Some (expansion_value key)) × (core_in run.new ≡ with_asked (core_in run.old) (Key.Expansion entry))) }
+    ensures noted { OnOk result (IsNoted run.old run.new) }
+    ensures many { result ≡ Err StepError.TooMany → IsFull locations.old.entries (expansion_value key) × (locations.new ≡ locations.old) }
+{
     let entry = locations.intern_entry(key)?;
     run.ask(Key::Expansion(entry))?;
     Ok(())
@@ -349,7 +357,18 @@ fn look_up<D: SourceDatabase>(
     locations: &mut Tables,
     call: &MacroDirective,
     key: ExpansionKey,
-) -> Result<Expansion, StepError> {
+) -> Result<Expansion, StepError>
+    requires meant { IsMeantCall locations.old call.now }
+    ensures kept { KeepsTables locations.old locations.new }
+    ensures same { D.workspace db.new ≡ D.workspace db.old }
+    ensures placed { AreCallsPlaced locations.old → AreCallsPlaced locations.new }
+    ensures ok { IfOk result (λ e. (entry : EntryId) × (entry_at locations.new entry ≡ Some (expansion_value key)) × (call_at locations.new e.id ≡ Some (call_loc call.now entry))
+        × (e.error ≡ error_of ((D.workspace db.old).entry (expansion_value key)))
+        × (e.source.value ≡ source_in locations.new (D.workspace db.old) (call_key (core_in run.old).map.id.krate e.id))
+        × (core_in run.new ≡ with_asked (with_asked (core_in run.old) (Key.Expansion entry)) (Key.Tree (call_key (core_in run.old).map.id.krate e.id)))) }
+    ensures noted { OnOk result (IsNoted run.old run.new) }
+    ensures many { result ≡ Err StepError.TooMany → OnceGrown locations.new (D.workspace db.old) (λ env. IsCallNumberedOut env.tables (call_kind call.now) (expansion_value key)) }
+{
     let alloc = run.allocator();
     let krate = run.map().id().krate;
     let error = error_of(alloc, db.expansion(&key))?;
@@ -388,7 +407,19 @@ fn look_behind_paths<D: SourceDatabase>(
     call: &MacroDirective,
     key: ExpansionKey,
     inner: InnerPaths,
-) -> Result<CallLook, CollectError> {
+) -> Result<CallLook, CollectError>
+    requires meant { IsMeantCall locations.old call.now }
+    requires some { ¬ (inner ≡ []) }
+    ensures kept { KeepsTables locations.old locations.new }
+    ensures same { D.workspace db.new ≡ D.workspace db.old }
+    ensures placed { AreCallsPlaced locations.old → AreCallsPlaced locations.new }
+    ensures ok { IfOk result (λ look. IsLookBehind locations.new (D.workspace db.old) (part_of world.entry) call.now (expansion_value key) inner (core_in run.old) (core_in run.new) look) }
+    ensures noted { OnOk result (IsNoted run.old run.new) }
+    ensures many { result ≡ Err CollectError.TooMany → OnceGrown locations.new (D.workspace db.old)
+        (λ env. LacksBehind env (part_of world.entry) (core_in run.old) call.now (expansion_value key) inner) }
+    ensures unknown { result ≡ Err CollectError.UnknownSource → (path : Path) × (makro : MacroId)
+        × (inner_macro (part_of world.entry) (core_in run.old).local (core_in run.old).map call.now.site.home path ≡ Some makro) × ¬ IsMeant locations.new makro }
+{
     let reached = reached_by(run, world, call.site.home, inner.as_slice())?;
     let Some(macros) = reached else {
         ask_entry(run, locations, key)?;

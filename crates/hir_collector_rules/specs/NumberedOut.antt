@@ -57,10 +57,13 @@ pub data IsCallNumberedOut (tables : TablesValue) (kind : MacroCallKind) (key : 
   call_out : (entry : EntryId) → entry_at tables entry ≡ Some key → IsNumberedOut tables.calls (record { kind = kind; entry = entry })
       → IsCallNumberedOut tables kind key
 
--- so it is of a call whose macro has a source with a number; or once what the macro asks for first reaches macros whose sources have numbers
+-- so it is of a call whose macro has a source with a number, and asks for nothing first; or what tells what it asks for has no number; or so it is once what the
+-- macro asks for first reaches macros whose sources have numbers
 pub data LacksExpansion (env : Environment) (finished : Maps) (local : Local) (m : Map) (d : MacroDirective) (makro : MacroId) : Type 0 where
-  at_once : IsMeant env.tables makro → IsCallNumberedOut env.tables (call_kind d) (expansion_by env finished m d makro)
+  at_once : IsMeant env.tables makro → asked_first makro (env.workspace.entry (expansion_by env finished m d makro)) ≡ []
+      → IsCallNumberedOut env.tables (call_kind d) (expansion_by env finished m d makro)
       → LacksExpansion env finished local m d makro
+  no_entry : IsMeant env.tables makro → IsNumberedOut env.tables.entries (expansion_by env finished m d makro) → LacksExpansion env finished local m d makro
   grown : IsMeant env.tables makro → (macros : List InnerMacro)
       → AreReached finished local m d.site.home (asked_first makro (env.workspace.entry (expansion_by env finished m d makro))) macros
       → All (λ (i : InnerMacro). IsMeant env.tables i.makro) macros
