@@ -279,10 +279,11 @@ fn texts_of<D: SourceDatabase>(
     let alloc = run.allocator();
     let mut texts = Vec::new(alloc);
     for makro in macros {
-        let text = called_text(run, db, world, locations, *makro)?;
+        let told = called_text(run, db, world, locations, *makro)?;
+        let text = or_empty(alloc, told)?;
         texts.push(MacroText {
             krate: makro.module().map.krate,
-            text: or_empty(alloc, text)?,
+            text,
         })?;
     }
     Ok(texts)
@@ -345,8 +346,8 @@ fn ask_entry(
     ensures noted { OnOk result (IsNoted run.old run.new) }
     ensures many { result ≡ Err StepError.TooMany → IsFull locations.old.entries (expansion_value key) × (locations.new ≡ locations.old) }
 {
-    let entry = locations.intern_entry(key)?;
-    run.ask(Key::Expansion(entry))?;
+    let asked = locations.intern_entry(key)?;
+    run.ask(Key::Expansion(asked))?;
     Ok(())
 }
 
