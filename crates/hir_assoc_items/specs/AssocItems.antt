@@ -263,10 +263,12 @@ pub record Meets (env : Environment) (c : ContainerValue) (items : List WrittenV
   pub path : Path
   pub reaches : Reaches c i path makro
 
--- what a call depends on has no number and gets none; or it has one, and the call gets none
+-- all paths that its macro asks for first reach macros, and what the call depends on has no number and gets none; or it has one, and the call gets none
 pub data HasNoNumber (env : Environment) (c : ContainerValue) (node : AstId) (makro : MacroId) : Type 0 where
-  expansion_out : IsNumberedOut env.tables.entries (expansion_by env c node makro) → HasNoNumber env c node makro
-  call_out : (entry : EntryId) → entry_at env.tables entry ≡ Some (expansion_by env c node makro) → IsNumberedOut env.tables.calls (call_loc node entry)
+  expansion_out : first_missing c (inner_paths env c node makro) ≡ None → IsNumberedOut env.tables.entries (expansion_by env c node makro)
+      → HasNoNumber env c node makro
+  call_out : first_missing c (inner_paths env c node makro) ≡ None → (entry : EntryId) → entry_at env.tables entry ≡ Some (expansion_by env c node makro)
+      → IsNumberedOut env.tables.calls (call_loc node entry)
       → HasNoNumber env c node makro
 
 -- no number is left for a call, or more items come up than are counted

@@ -1,12 +1,19 @@
 //! What a call expands to that reaches a macro.
-ghost use Rattle.std.specs.Prelude.{◌≡◌, [], IfOk, IsSome, unwrap_or};
+ghost use Rattle.std.specs.Prelude.{◌≡◌, ◌⊎◌, [], IfOk, IsSome, None, Some, unwrap_or};
+ghost use Rattle.std.specs.declared.alloc.Global.{Global};
+ghost use Rattle.std.specs.declared.vec.Vec.{Vec};
+ghost use Rattle.hir_collector_rules.specs.HirBase.ModPath.{Path};
+ghost use Rattle.hir_collector_rules.specs.HirBase.declared.macro_kind.MacroText.{MacroText};
+ghost use Rattle.hir_collector_rules.specs.HirIds.declared.ast_id.EntryId.{EntryId};
+ghost use Rattle.hir_collector_rules.specs.HirIds.declared.macro_kind.MacroId.{MacroId};
+ghost use Rattle.hir_collector_rules.specs.HirTables.Interning.{IsFull};
 ghost use Rattle.hir_collector_rules.specs.HirTables.SourcePlaces.{expansion_value};
-ghost use Rattle.hir_collector_rules.specs.HirTables.Tables.{KeepsTables, source_of};
+ghost use Rattle.hir_collector_rules.specs.HirTables.Tables.{KeepsTables, call_at, entry_at, source_of};
 ghost use Rattle.hir_collector_rules.specs.HirNameres.DefMaps.{maps_of};
-ghost use Rattle.hir_collector_rules.specs.Calls.{AreCallsPlaced, asked_first, call_tree, error_of, expansion_of_call};
-ghost use Rattle.hir_collector_rules.specs.Keys.{environment, node_tree};
+ghost use Rattle.hir_collector_rules.specs.Calls.{AreCallsPlaced, asked_first, call_key, call_tree, error_of, expansion_of_call};
+ghost use Rattle.hir_collector_rules.specs.Keys.{IsMeant, environment, node_tree, source_in};
 ghost use Rattle.hir_collector_rules.specs.Workspace.{entry_look};
-ghost use Rattle.hir_assoc_items.specs.AssocItems.{HasNoNumber, IsUnknown, exported_name, macro_text};
+ghost use Rattle.hir_assoc_items.specs.AssocItems.{HasNoNumber, IsUnknown, call_loc, exported_name, first_missing, macro_called, macro_text, texts_reached};
 ghost use Rattle.hir_assoc_items.specs.Steps.{IsLook, container_view};
 
 use crate::container::Container;
@@ -169,7 +176,16 @@ fn texts_reached<D: SourceDatabase>(
     container: &Container<'_>,
     locations: &Tables,
     paths: &[ModPath],
-) -> Result<Option<Vec<MacroText>>, AssocItemsError> {
+) -> Result<Option<Vec<MacroText>>, AssocItemsError>
+    ensures reached { IfOk result (λ found. (texts : Vec MacroText Global) → found ≡ Some texts
+        → (first_missing (container_view container.now) paths.now ≡ None)
+        × (texts.items ≡ texts_reached (environment locations.now (D.workspace db.old)) (container_view container.now) paths.now)) }
+    ensures missing { IfOk result (λ found. found ≡ None → IsSome (first_missing (container_view container.now) paths.now)) }
+    ensures same { D.workspace db.new ≡ D.workspace db.old }
+    ensures many { ¬ (result ≡ Err AssocItemsError.TooMany) }
+    ensures unknown { result ≡ Err AssocItemsError.UnknownSource → (path : Path) × (makro : MacroId)
+        × (macro_called (container_view container.now) path ≡ Some makro) × ¬ IsMeant locations.now makro }
+{
     let mut texts = Vec::new(alloc);
     for path in paths {
         let Some(makro) = container.called_macro(path) else {
@@ -203,7 +219,19 @@ fn look_up<D: SourceDatabase>(
     locations: &mut Tables,
     node: AstId,
     key: ExpansionKey,
-) -> Result<Expansion, AssocItemsError> {
+) -> Result<Expansion, AssocItemsError>
+    requires meant { IsSome (source_of locations.old (node_tree node)) }
+    ensures kept { KeepsTables locations.old locations.new }
+    ensures others { locations.new ≡ record locations.old { entries = locations.new.entries; calls = locations.new.calls } }
+    ensures placed { AreCallsPlaced locations.old → AreCallsPlaced locations.new }
+    ensures same { D.workspace db.new ≡ D.workspace db.old }
+    ensures ok { IfOk result (λ e. (entry : EntryId) × (entry_at locations.new entry ≡ Some (expansion_value key)) × (call_at locations.new e.id ≡ Some (call_loc node entry))
+        × (e.error ≡ error_of ((D.workspace db.old).entry (expansion_value key)))
+        × (e.source.value ≡ source_in locations.new (D.workspace db.old) (call_key krate e.id))) }
+    ensures many { result ≡ Err AssocItemsError.TooMany → IsFull locations.new.entries (expansion_value key)
+        ⊎ ((entry : EntryId) × (entry_at locations.new entry ≡ Some (expansion_value key)) × IsFull locations.new.calls (call_loc node entry)) }
+    ensures unknown { ¬ (result ≡ Err AssocItemsError.UnknownSource) }
+{
     let error = error_of(alloc, db.expansion(&key))?;
     let entry = locations.intern_entry(key)?;
     let id = locations.intern_call(MacroCallLoc {
