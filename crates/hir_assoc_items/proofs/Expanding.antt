@@ -26,7 +26,7 @@ use Rattle.hir_assoc_items.specs.AssocItems.{ContainerValue, HasNoNumber, call_l
 use Rattle.hir_assoc_items.specs.Steps.{SeesCall, refusal_of_number}
 use Rattle.hir_assoc_items.specs.declared.error.AssocItemsError.{AssocItemsError}
 use Rattle.hir_assoc_items.specs.declared.error.AssocItemsError.TheVariants as errors
-use Rattle.hir_assoc_items.proofs.Growth.{expansion_stays, source_in_stays}
+use Rattle.hir_assoc_items.proofs.Growth.{AreKnown, expansion_stays, source_in_stays}
 
 -- the key is put together out of what was looked up, as long as no path is resolved
 pub key_of_call : (tables : TablesValue) (w : Workspace) (c : ContainerValue) (node : AstId) (makro : MacroId) (krate : Crate) (text input : Option (List ℕ))
@@ -48,9 +48,9 @@ source_of_call tables id loc key call entry =
     (λ (o : Option ExpansionValue). option_map expansion o) entry
 
 module _ (first : TablesValue) (w : Workspace) (c : ContainerValue) (node : AstId) (makro : MacroId) (meant : IsSome (source_of first (node_tree node))) (of_macro : IsMeant first makro)
-    (key : ExpansionValue) (is : key ≡ expansion_by (environment first w) c node makro) where
+    (known : AreKnown first c (inner_paths (environment first w) c node makro)) (key : ExpansionValue) (is : key ≡ expansion_by (environment first w) c node makro) where
   key_stays : (grown : TablesValue) → KeepsTables first grown → key ≡ expansion_by (environment grown w) c node makro
-  key_stays grown kept = is ∙ sym (expansion_stays first grown kept w c node makro meant of_macro)
+  key_stays grown kept = is ∙ sym (expansion_stays first grown kept w c node makro meant of_macro known)
 
   pub sees_call : (second tables : TablesValue) (entry : EntryId) (id : MacroCallId) (error : Option (List ℕ)) (source : SourceTreeValue)
       → KeepsTables first second → KeepsTables second tables

@@ -1,5 +1,5 @@
 //! What a call expands to that reaches a macro.
-ghost use Rattle.std.specs.Prelude.{◌≡◌, ◌⊎◌, [], IfOk, IsSome, None, Some, unwrap_or};
+ghost use Rattle.std.specs.Prelude.{◌≡◌, ◌⊎◌, [], Contains, IfOk, IsSome, None, Some, unwrap_or};
 ghost use Rattle.std.specs.declared.alloc.Global.{Global};
 ghost use Rattle.std.specs.declared.vec.Vec.{Vec};
 ghost use Rattle.hir_collector_rules.specs.HirBase.ModPath.{Path};
@@ -179,7 +179,8 @@ fn texts_reached<D: SourceDatabase>(
 ) -> Result<Option<Vec<MacroText>>, AssocItemsError>
     ensures reached { IfOk result (λ found. (texts : Vec MacroText Global) → found ≡ Some texts
         → (first_missing (container_view container.now) paths.now ≡ None)
-        × (texts.items ≡ texts_reached (environment locations.now (D.workspace db.old)) (container_view container.now) paths.now)) }
+        × (texts.items ≡ texts_reached (environment locations.now (D.workspace db.old)) (container_view container.now) paths.now)
+        × ((path : Path) (makro : MacroId) → Contains paths.now path → macro_called (container_view container.now) path ≡ Some makro → IsMeant locations.now makro)) }
     ensures missing { IfOk result (λ found. found ≡ None → IsSome (first_missing (container_view container.now) paths.now)) }
     ensures same { D.workspace db.new ≡ D.workspace db.old }
     ensures many { ¬ (result ≡ Err AssocItemsError.TooMany) }
