@@ -30,6 +30,7 @@ use hir_session_answers::answers::answer_at;
 use hir_session_answers::diagnostics::diagnostics_at;
 use hir_session_answers::modules::list_modules;
 use hir_session_answers::names::names_at;
+use hir_session_answers::paths::path_at;
 use hir_session_answers::standing::{PlaceStanding, standing_at};
 use hir_session_sources::crate_info::CrateInfo;
 use hir_session_sources::files::Files;
@@ -37,8 +38,8 @@ use hir_session_state::error::{DiagnosticsError, ModulesError, QueryError, TreeT
 use hir_session_state::hir_def_map::def_maps::DefMaps;
 use hir_session_state::hir_def_map::nameres::DefMap;
 use hir_session_state::hir_def_map::world::part::WorldPart;
-use hir_session_state::hir_messages::answer::Answer;
-use hir_session_state::hir_messages::command::{MacroStyle, Shadow};
+use hir_session_state::hir_messages::answer::{Answer, Definition};
+use hir_session_state::hir_messages::command::{MacroStyle, Namespace, PathPrefix, Shadow};
 use hir_session_state::hir_messages::diagnostic::Diagnostics;
 use hir_session_state::hir_messages::names::BoundNames;
 use hir_session_state::hir_messages::reply::{Places, Status};
@@ -206,6 +207,61 @@ impl Session {
     {
         match self.status(place) {
             Status::Current => self.names_kept(alloc, place),
+            Status::Stale => Err(QueryError::StalePlace),
+            Status::Unknown => Err(QueryError::UnknownPlace),
+        }
+    }
+
+    /// A shortest path that names a definition, over what is kept.
+    fn path_kept(
+        &self,
+        alloc: Global,
+        place: &Place,
+        definition: &Definition,
+        namespace: Namespace,
+        prefix: PathPrefix,
+        most: u32,
+    ) -> Result<Option<ModPath>, QueryError> {
+        let Some(at) = self.standing(place).module() else {
+            return Err(QueryError::UnknownPlace);
+        };
+        let Some(found) = self.kept.get(at.map) else {
+            return Err(QueryError::UnknownPlace);
+        };
+        let Some(transitive) = self.inputs.crates().transitive_dependencies(at.map.krate) else {
+            return Err(QueryError::UnknownPlace);
+        };
+        let read = WorldPart::among(self.kept.world(), transitive, found.holders);
+        let maps = DefMaps::new(read, found.map);
+        let path = path_at(
+            alloc,
+            &self.tables,
+            &maps,
+            found.local,
+            at,
+            definition,
+            namespace,
+            prefix,
+            most,
+        )?;
+        Ok(path)
+    }
+
+    /// A shortest path that names a definition in a namespace, from the module that a place names, of at most so many segments
+    /// (and never more than 64); None where there is none.
+    pub fn path_to(
+        &self,
+        alloc: Global,
+        place: &Place,
+        definition: &Definition,
+        namespace: Namespace,
+        prefix: PathPrefix,
+        most: u32,
+    ) -> Result<Option<ModPath>, QueryError> {
+        match self.status(place) {
+            Status::Current => {
+                self.path_kept(alloc, place, definition, namespace, prefix, most)
+            }
             Status::Stale => Err(QueryError::StalePlace),
             Status::Unknown => Err(QueryError::UnknownPlace),
         }
