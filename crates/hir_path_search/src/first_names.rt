@@ -27,23 +27,12 @@ fn crate_root(of: ModuleId) -> ModuleId {
     ModuleId::root(MapId::of_crate(of.map.krate))
 }
 
-/// First names as they are looked at, asked for from these modules by a path of this kind.
+/// First names that are asked for from these modules by a path of this kind.
+#[derive(Drop)]
 struct Gathering<'a, 'b, S> {
     search: &'a PathSearch<'b, S>,
     askers: &'a [ModuleId],
     kind: PathKind,
-    found: FirstNames,
-}
-
-impl<S> Drop for Gathering<'_, '_, S> {
-    fn drop(self) {
-        let Gathering {
-            search: _,
-            askers: _,
-            kind: _,
-            found: _,
-        } = self;
-    }
 }
 
 impl<S: Sought> Gathering<'_, '_, S> {
@@ -124,34 +113,34 @@ impl<S: Sought> Gathering<'_, '_, S> {
     }
 
     /// Looks at a first name by itself.
-    fn end(&mut self, alloc: Global, name: &Name) -> Result<(), AllocError> {
+    fn end(&self, alloc: Global, found: &mut FirstNames, name: &Name) -> Result<(), AllocError> {
         if let Some(named) = self.search.sought_in(alloc, self.named(name))? {
             let ending = Ending::last(alloc, name, named.imported)?;
-            self.found.ending = better(self.found.ending.take(), Some(ending));
+            found.ending = better(found.ending.take(), Some(ending));
         }
         Ok(())
     }
 
     /// Looks at a first name before others.
-    fn go_on(&mut self, alloc: Global, name: &Name) -> Result<(), AllocError> {
+    fn go_on(&self, alloc: Global, found: &mut FirstNames, name: &Name) -> Result<(), AllocError> {
         let Some(item) = self.named_before_others(name).types else {
             return Ok(());
         };
         if let Some(looks) = self.looks(alloc, name)? {
-            self.found.steps.push(Step::to(name, item, looks)?)?;
+            found.steps.push(Step::to(name, item, looks)?)?;
         }
         Ok(())
     }
 
     /// Looks at a name that stands for this somewhere.
-    fn meet(&mut self, alloc: Global, name: &Name, items: PerNs) -> Result<(), AllocError> {
+    fn meet(&self, alloc: Global, found: &mut FirstNames, name: &Name, items: PerNs) -> Result<(), AllocError> {
         if self.search.sought_in(alloc, items)?.is_some() {
-            self.end(alloc, name)?;
+            self.end(alloc, found, name)?;
         }
         match items.types {
             Some(item) => {
                 if leads_on(item.def) {
-                    self.go_on(alloc, name)?;
+                    self.go_on(alloc, found, name)?;
                 }
                 Ok(())
             }
@@ -160,20 +149,20 @@ impl<S: Sought> Gathering<'_, '_, S> {
     }
 
     /// The names of a module.
-    fn meet_scope(&mut self, alloc: Global, module: ModuleId) -> Result<(), AllocError> {
+    fn meet_scope(&self, alloc: Global, found: &mut FirstNames, module: ModuleId) -> Result<(), AllocError> {
         let search = self.search;
         let Some(scope) = search.scope(module) else {
             return Ok(());
         };
         let mut left = scope.entries();
         'names: while let Some((name, items)) = left.next() {
-            self.meet(alloc, name, items)?;
+            self.meet(alloc, found, name, items)?;
         }
         Ok(())
     }
 
     /// The macros in textual scope in a module.
-    fn meet_textual_scope(&mut self, alloc: Global, module: ModuleId) -> Result<(), AllocError> {
+    fn meet_textual_scope(&self, alloc: Global, found: &mut FirstNames, module: ModuleId) -> Result<(), AllocError> {
         let search = self.search;
         let Some(scope) = search.scope(module) else {
             return Ok(());
@@ -181,69 +170,69 @@ impl<S: Sought> Gathering<'_, '_, S> {
         let mut left = scope.legacy_macros();
         'macros: while let Some(defined) = left.next() {
             let items = PerNs::macros(defined.makro, Visibility::Public, None);
-            self.meet(alloc, &defined.name, items)?;
+            self.meet(alloc, found, &defined.name, items)?;
         }
         Ok(())
     }
 
     /// The builtin types.
-    fn meet_builtin_types(&mut self, alloc: Global) -> Result<(), AllocError> {
+    fn meet_builtin_types(&self, alloc: Global, found: &mut FirstNames) -> Result<(), AllocError> {
         for builtin in all_builtin_types() {
             let def = ModuleDefId::BuiltinType(builtin);
             if self.search.sought.is(alloc, def)? {
                 let name = Name::of_valid(alloc, builtin.as_str())?;
-                self.meet(alloc, &name, PerNs::types(def, Visibility::Public, None))?;
+                self.meet(alloc, found, &name, PerNs::types(def, Visibility::Public, None))?;
             }
         }
         Ok(())
     }
 
     /// The crates of the extern prelude.
-    fn meet_crates(&mut self, alloc: Global) -> Result<(), AllocError> {
+    fn meet_crates(&self, alloc: Global, found: &mut FirstNames) -> Result<(), AllocError> {
         let search = self.search;
         for (name, (module, _)) in search.local.extern_prelude() {
             let def = ModuleDefId::ModuleId(*module);
-            self.meet(alloc, name, PerNs::types(def, Visibility::Public, None))?;
+            self.meet(alloc, found, name, PerNs::types(def, Visibility::Public, None))?;
         }
         Ok(())
     }
 
     /// The macros of a `macro_use` prelude, and the names of the prelude module.
-    fn meet_preludes(&mut self, alloc: Global, id: MapId) -> Result<(), AllocError> {
+    fn meet_preludes(&self, alloc: Global, found: &mut FirstNames, id: MapId) -> Result<(), AllocError> {
         let search = self.search;
         let Some(map) = search.maps.map(id) else {
             return Ok(());
         };
         for (name, (makro, _)) in map.macro_use_prelude() {
-            self.meet(alloc, name, PerNs::macros(*makro, Visibility::Public, None))?;
+            self.meet(alloc, found, name, PerNs::macros(*makro, Visibility::Public, None))?;
         }
         match map.prelude() {
-            Some((prelude, _)) => self.meet_scope(alloc, prelude),
+            Some((prelude, _)) => self.meet_scope(alloc, found, prelude),
             None => Ok(()),
         }
     }
 
     /// All that a path without a root may begin with.
-    fn meet_plain(&mut self, alloc: Global) -> Result<(), AllocError> {
+    fn meet_plain(&self, alloc: Global, found: &mut FirstNames) -> Result<(), AllocError> {
         let askers = self.askers;
         for asker in askers {
-            self.meet_scope(alloc, *asker)?;
-            self.meet_textual_scope(alloc, *asker)?;
-            self.meet_preludes(alloc, asker.map)?;
+            self.meet_scope(alloc, found, *asker)?;
+            self.meet_textual_scope(alloc, found, *asker)?;
+            self.meet_preludes(alloc, found, asker.map)?;
         }
         if let Some(root) = self.prelude_root() {
-            self.meet_preludes(alloc, root.map)?;
+            self.meet_preludes(alloc, found, root.map)?;
         }
-        self.meet_builtin_types(alloc)?;
-        self.meet_crates(alloc)
+        self.meet_builtin_types(alloc, found)?;
+        self.meet_crates(alloc, found)
     }
 
     /// All that a path which begins with `::` may go on with.
-    fn meet_absolute(&mut self, alloc: Global) -> Result<(), AllocError> {
+    fn meet_absolute(&self, alloc: Global, found: &mut FirstNames) -> Result<(), AllocError> {
         if self.search.maps.is_in_edition_2015(self.search.at.map) {
-            self.meet_scope(alloc, crate_root(self.search.at))?;
+            self.meet_scope(alloc, found, crate_root(self.search.at))?;
         }
-        self.meet_crates(alloc)
+        self.meet_crates(alloc, found)
     }
 }
 
@@ -254,24 +243,18 @@ pub fn first_names<S: Sought>(
     askers: &[ModuleId],
     kind: PathKind,
 ) -> Result<FirstNames, AllocError> {
-    let mut gathering = Gathering {
+    let gathering = Gathering {
         search,
         askers,
         kind,
-        found: FirstNames {
-            ending: None,
-            steps: Vec::new(alloc),
-        },
+    };
+    let mut found = FirstNames {
+        ending: None,
+        steps: Vec::new(alloc),
     };
     match kind {
-        PathKind::Abs => gathering.meet_absolute(alloc)?,
-        _ => gathering.meet_plain(alloc)?,
+        PathKind::Abs => gathering.meet_absolute(alloc, &mut found)?,
+        _ => gathering.meet_plain(alloc, &mut found)?,
     }
-    let Gathering {
-        search: _,
-        askers: _,
-        kind: _,
-        found,
-    } = gathering;
     Ok(found)
 }

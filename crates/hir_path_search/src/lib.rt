@@ -18,3 +18,9 @@ pub mod sought;
 
 pub use search::{PathPrefix, find_path};
 pub use sought::Sought;
+
+#[cfg(test)]
+mod tests {
+    #[test]
+    fn nothing() {}
+}

@@ -27,6 +27,7 @@ pub enum PathPrefix {
 }
 
 /// What is looked for, from where, and over which maps.
+#[derive(Drop)]
 pub struct PathSearch<'a, S> {
     pub maps: DefMaps<'a>,
     pub local: &'a LocalDefMap,

@@ -1,20 +1,24 @@
 //! Paths that name a definition, which is given as answers write it.
 
+ghost use Rattle.std.specs.Prelude.{◌≡◌, ◌&&◌, nat_le, length};
+ghost use Rattle.hir_session_answers.specs.PathsTo.{answered_in, begins_so, is_item_of, names_definition};
+
 use crate::source_items::definitions::definition_at;
 use hir_base::ast_id::{AstKind, SyntaxId};
 use hir_base::ids::{AdtId, Crate, ItemContainerId, ModuleDefId, ModuleId};
 use hir_base::macro_kind::MacroId;
-use hir_base::mod_path::{MAX_SEGMENTS, ModPath};
+use hir_base::mod_path::{MAX_SEGMENTS, ModPath, PathKind};
 use hir_path_search::{self, Sought, find_path};
 use hir_session_state::hir_def_map::def_maps::DefMaps;
 use hir_session_state::hir_def_map::nameres::local_def_map::LocalDefMap;
-use hir_session_state::hir_messages::answer::{Definition, SourceKind};
+use hir_session_state::hir_messages::answer::{Answer, AnswerItem, Definition, SourceKind};
 use hir_session_state::hir_messages::command::{Namespace, PathPrefix};
 use hir_session_state::hir_scope::per_ns;
 use hir_tables::Tables;
 use std::alloc::{AllocError, Global};
 
 /// A definition that is looked for, as answers write it.
+#[derive(Drop)]
 struct SoughtDefinition<'a> {
     tables: &'a Tables,
     maps: &'a DefMaps<'a>,
@@ -32,6 +36,7 @@ fn crate_at(container: ItemContainerId) -> Crate {
 }
 
 /// What tells most definitions of nodes apart: the crate, the kind, and the node's id where it is written.
+#[derive(Clone, Copy)]
 struct NodeKey {
     krate: Crate,
     kind: SourceKind,
@@ -131,6 +136,54 @@ fn prefix_of(prefix: PathPrefix) -> hir_path_search::PathPrefix {
     match prefix {
         PathPrefix::Plain => hir_path_search::PathPrefix::Plain,
         PathPrefix::Crate => hir_path_search::PathPrefix::Crate,
+    }
+}
+
+/// Whether a path begins as it is to.
+fn begins_so(prefix: PathPrefix, kind: PathKind) -> bool
+    ensures value { result ≡ begins_so prefix kind }
+{
+    match prefix {
+        PathPrefix::Plain => !matches!(kind, PathKind::DollarCrate(_)),
+        PathPrefix::Crate => matches!(kind, PathKind::Crate | PathKind::Abs),
+    }
+}
+
+/// Whether a path begins as it is to, and has no more than so many segments.
+pub fn fits(path: &ModPath, prefix: PathPrefix, most: u32) -> bool
+    ensures value { result ≡ (begins_so prefix path.now.kind && nat_le (length path.now.segments) most) }
+{
+    begins_so(prefix, path.kind()) && path.segments().len() <= most as usize
+}
+
+/// What is answered in a namespace.
+fn answered_in(namespace: Namespace, answer: &Answer) -> &Option<AnswerItem>
+    ensures value { result.now ≡ answered_in namespace answer.now }
+{
+    match namespace {
+        Namespace::Types => &answer.types,
+        Namespace::Values => &answer.values,
+        Namespace::Macros => &answer.macros,
+    }
+}
+
+/// Whether an item is of a definition.
+fn is_item_of(definition: &Definition, item: &Option<AnswerItem>) -> bool
+    ensures value { result ≡ is_item_of definition.now item.now }
+{
+    match item {
+        Some(item) => item.def == *definition,
+        None => false,
+    }
+}
+
+/// Whether an answer names a definition in a namespace.
+pub fn names_definition(namespace: Namespace, answer: &Answer, definition: &Definition) -> bool
+    ensures value { result ≡ names_definition namespace answer.now definition.now }
+{
+    match answer.stop {
+        None => is_item_of(definition, answered_in(namespace, answer)),
+        Some(_) => false,
     }
 }
 

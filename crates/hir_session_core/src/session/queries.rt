@@ -1,5 +1,5 @@
 //! What a session is asked.
-ghost use Rattle.std.specs.Prelude.{◌≡◌, ◌++◌, ◌⊎◌, IfOk, IfErr, OnOk, Ok, Err, option_map, string_bytes};
+ghost use Rattle.std.specs.Prelude.{◌≡◌, ◌++◌, ◌⊎◌, IfOk, IfErr, IfSome, OnOk, Ok, Err, option_map, string_bytes};
 ghost use Rattle.std.specs.Option.{option_and_then};
 ghost use Rattle.hir_session_state.specs.HirIds.Refusal.{Gives};
 ghost use Rattle.hir_session_state.specs.HirItemTree.Source.{source_view};
@@ -19,6 +19,7 @@ ghost use Rattle.hir_session_answers.specs.TreeText.{tree_text_of};
 ghost use Rattle.hir_session_answers.specs.Modules.{file_modules_of, modules_in, modules_of};
 ghost use Rattle.hir_session_answers.specs.Names.{names_kept, names_of};
 ghost use Rattle.hir_session_answers.specs.NamesStand.{NamesStand};
+ghost use Rattle.hir_session_answers.specs.PathsTo.{AreRefused, LeadsTo};
 
 use super::Session;
 use hir_base::file_path::FilePath;
@@ -30,7 +31,7 @@ use hir_session_answers::answers::answer_at;
 use hir_session_answers::diagnostics::diagnostics_at;
 use hir_session_answers::modules::list_modules;
 use hir_session_answers::names::names_at;
-use hir_session_answers::paths::path_at;
+use hir_session_answers::paths::{fits, names_definition, path_at};
 use hir_session_answers::standing::{PlaceStanding, standing_at};
 use hir_session_sources::crate_info::CrateInfo;
 use hir_session_sources::files::Files;
@@ -212,7 +213,7 @@ impl Session {
         }
     }
 
-    /// A shortest path that names a definition, over what is kept.
+    /// A path that is looked for to name a definition, over what is kept.
     fn path_kept(
         &self,
         alloc: Global,
@@ -221,19 +222,19 @@ impl Session {
         namespace: Namespace,
         prefix: PathPrefix,
         most: u32,
-    ) -> Result<Option<ModPath>, QueryError> {
+    ) -> Result<Option<ModPath>, AllocError> {
         let Some(at) = self.standing(place).module() else {
-            return Err(QueryError::UnknownPlace);
+            return Ok(None);
         };
         let Some(found) = self.kept.get(at.map) else {
-            return Err(QueryError::UnknownPlace);
+            return Ok(None);
         };
         let Some(transitive) = self.inputs.crates().transitive_dependencies(at.map.krate) else {
-            return Err(QueryError::UnknownPlace);
+            return Ok(None);
         };
         let read = WorldPart::among(self.kept.world(), transitive, found.holders);
         let maps = DefMaps::new(read, found.map);
-        let path = path_at(
+        path_at(
             alloc,
             &self.tables,
             &maps,
@@ -243,8 +244,30 @@ impl Session {
             namespace,
             prefix,
             most,
-        )?;
-        Ok(path)
+        )
+    }
+
+    /// A path, where it leads to a definition from the module that a place names, begins as it is to, and has no more than so many
+    /// segments.
+    fn leading(
+        &self,
+        alloc: Global,
+        place: &Place,
+        definition: &Definition,
+        namespace: Namespace,
+        prefix: PathPrefix,
+        most: u32,
+        path: ModPath,
+    ) -> Result<Option<ModPath>, QueryError>
+        ensures found { IfOk result (λ found. IfSome found (LeadsTo self.now place.now definition.now namespace prefix most)) }
+        ensures refused { IfErr result (λ e. IsQueryMemory e ⊎ AreRefused self.now place.now e) }
+    {
+        let answer = self.resolve_path(alloc, place, &path, Shadow::Other, None)?;
+        if fits(&path, prefix, most) && names_definition(namespace, &answer, definition) {
+            Ok(Some(path))
+        } else {
+            Ok(None)
+        }
     }
 
     /// A shortest path that names a definition in a namespace, from the module that a place names, of at most so many segments
@@ -257,10 +280,18 @@ impl Session {
         namespace: Namespace,
         prefix: PathPrefix,
         most: u32,
-    ) -> Result<Option<ModPath>, QueryError> {
+    ) -> Result<Option<ModPath>, QueryError>
+        ensures found { IfOk result (λ found. IfSome found (LeadsTo self.now place.now definition.now namespace prefix most)) }
+        ensures refused { IfErr result (λ e. IsQueryMemory e ⊎ AreRefused self.now place.now e) }
+    {
         match self.status(place) {
             Status::Current => {
-                self.path_kept(alloc, place, definition, namespace, prefix, most)
+                match self.path_kept(alloc, place, definition, namespace, prefix, most)? {
+                    Some(path) => self.leading(
+                        alloc, place, definition, namespace, prefix, most, path,
+                    ),
+                    None => Ok(None),
+                }
             }
             Status::Stale => Err(QueryError::StalePlace),
             Status::Unknown => Err(QueryError::UnknownPlace),
