@@ -47,6 +47,7 @@ told_by_call asks (asks_for_impl at number is_impl grown told) = absurd (let wro
 told_by_call {s} {krate = krate} {list = list} asks (lists other is_list same told) =
     let is_crate : other ≡ krate = cc in told_ok (diagnostics_of s krate) list (rw is_crate at told)
 told_by_call asks (names_all at is_names same told) = absurd (let wrong : ⊥ = cc in wrong)
+told_by_call asks (looks_for_path at def ns prefix most is_path same told) = absurd (let wrong : ⊥ = cc in wrong)
 told_by_call asks (lists_modules other is_modules same told) = absurd (let wrong : ⊥ = cc in wrong)
 told_by_call asks (lists_file_modules path is_modules same told) = absurd (let wrong : ⊥ = cc in wrong)
 

@@ -159,7 +159,8 @@ fn path_found(
     ensures step { AnswersCommand (Some session.now) (asks_for_path at.now def.now namespace prefix most) result (Some session.now) }
 {
     match session.path_to(alloc, at, def, namespace, prefix, most) {
-        Ok(path) => Reply::Path(path),
+        Ok(Some(path)) => Reply::Path(Some(path)),
+        Ok(None) => Reply::Path(None),
         Err(error) => reply_to_query(error),
     }
 }
