@@ -111,14 +111,24 @@ block_of (object ms) = Err Command
 
 -- ---- definitions
 
--- the kind of a definition that a word stands for
+-- the kind of a definition that a word stands for: of what a path can name
 abbrev pub definition_kind_of_word : List ℕ → Option DefinitionKind
 definition_kind_of_word word =
     if bytes_eq word (codes "CrateRoot") then Some defined.CrateRoot else
     (if bytes_eq word (codes "BlockExpr") then Some defined.BlockRoot else
+    (if bytes_eq word (codes "Fn") then Some (defined.Item (source.Node kind.Fn)) else
+    (if bytes_eq word (codes "Struct") then Some (defined.Item (source.Node kind.Struct)) else
+    (if bytes_eq word (codes "Union") then Some (defined.Item (source.Node kind.Union)) else
+    (if bytes_eq word (codes "Enum") then Some (defined.Item (source.Node kind.Enum)) else
     (if bytes_eq word (codes "Variant") then Some (defined.Item (source.Node kind.Variant)) else
-    (if bytes_eq word (codes "ProcMacro") then Some (defined.Item source.ProcMacro) else
-    option_map (λ k. defined.Item (source.Node k)) (kind_of_word word))))
+    (if bytes_eq word (codes "Const") then Some (defined.Item (source.Node kind.Const)) else
+    (if bytes_eq word (codes "Static") then Some (defined.Item (source.Node kind.Static)) else
+    (if bytes_eq word (codes "Trait") then Some (defined.Item (source.Node kind.Trait)) else
+    (if bytes_eq word (codes "TypeAlias") then Some (defined.Item (source.Node kind.TypeAlias)) else
+    (if bytes_eq word (codes "Module") then Some (defined.Item (source.Node kind.Module)) else
+    (if bytes_eq word (codes "MacroRules") then Some (defined.Item (source.Node kind.MacroRules)) else
+    (if bytes_eq word (codes "MacroDef") then Some (defined.Item (source.Node kind.MacroDef)) else
+    (if bytes_eq word (codes "ProcMacro") then Some (defined.Item source.ProcMacro) else None))))))))))))))
 
 -- the builtin type of a name
 abbrev pub builtin_from : Reading (List ℕ) → Reading Definition

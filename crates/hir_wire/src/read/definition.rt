@@ -1,5 +1,5 @@
 //! Definitions, as answers write them.
-ghost use Rattle.std.specs.Prelude.{◌≡◌, codes};
+ghost use Rattle.std.specs.Prelude.{◌≡◌, Some, codes};
 ghost use Rattle.serde_json.specs.View.{view, items_view, members_view};
 ghost use Rattle.hir_wire.specs.Paths.{name_of};
 ghost use Rattle.hir_wire.specs.Reading.{Reads, each_of, made, paired, required, word_as};
@@ -30,6 +30,12 @@ pub enum DefinitionKind {
     Item(SourceKind),
 }
 
+fn node_kind(kind: AstKind) -> Option<DefinitionKind>
+    ensures value { result ≡ Some (DefinitionKind.Item (SourceKind.Node kind)) }
+{
+    Some(DefinitionKind::Item(SourceKind::Node(kind)))
+}
+
 impl Word for DefinitionKind {
     ghost use Rattle.hir_wire.specs.Definitions.{definition_kind_of_word};
 
@@ -39,12 +45,20 @@ impl Word for DefinitionKind {
         match word {
             "CrateRoot" => Some(DefinitionKind::CrateRoot),
             "BlockExpr" => Some(DefinitionKind::BlockRoot),
-            "Variant" => Some(DefinitionKind::Item(SourceKind::Node(AstKind::Variant))),
+            "Fn" => node_kind(AstKind::Fn),
+            "Struct" => node_kind(AstKind::Struct),
+            "Union" => node_kind(AstKind::Union),
+            "Enum" => node_kind(AstKind::Enum),
+            "Variant" => node_kind(AstKind::Variant),
+            "Const" => node_kind(AstKind::Const),
+            "Static" => node_kind(AstKind::Static),
+            "Trait" => node_kind(AstKind::Trait),
+            "TypeAlias" => node_kind(AstKind::TypeAlias),
+            "Module" => node_kind(AstKind::Module),
+            "MacroRules" => node_kind(AstKind::MacroRules),
+            "MacroDef" => node_kind(AstKind::MacroDef),
             "ProcMacro" => Some(DefinitionKind::Item(SourceKind::ProcMacro)),
-            _ => match AstKind::from_word(word) {
-                Some(kind) => Some(DefinitionKind::Item(SourceKind::Node(kind))),
-                None => None,
-            },
+            _ => None,
         }
     }
 }
