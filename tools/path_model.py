@@ -15,7 +15,7 @@ import subprocess
 import sys
 
 import random_sessions
-from model.paths import KINDS, known_names, paths_from
+from model.paths import known_names, paths_from
 from model.workspace import Workspace, read_place
 
 
@@ -47,7 +47,7 @@ def asks_of(workspace, drawn, most):
     wanted = sorted({key for *_, best in found for key in best})
     for place, prefix, segments, best in found:
         for text, ns in wanted:
-            command = {"do": "path to", "at": place, "def": eval(text), "ns": ns, "most": segments}
+            command = {"do": "path to", "at": place, "def": json.loads(text), "ns": ns, "most": segments}
             if prefix != "plain" or drawn.random() < 0.5:
                 command["prefix"] = prefix
             yield command, {"ok": best.get((text, ns))}

@@ -1,8 +1,6 @@
 """Which path names a definition from a module: all paths of so many segments are tried, one after another."""
-from model.crate import BUILTIN, Item, Module
-from model.syntax import print_path
-
-KINDS = ("types", "values", "macros")
+from model.crate import BUILTIN, Item
+from model.syntax import dump, print_path
 
 
 def known_names(workspace):
@@ -33,7 +31,7 @@ def paths_from(at, most, prefix, names):
     best = {}
 
     def offer(binding, ns, judgement, path):
-        key = repr(binding.definition.text()), ns
+        key = dump(binding.definition.text()), ns
         if key not in best or judgement < best[key][0]:
             best[key] = judgement, path
 
@@ -59,3 +57,9 @@ def paths_from(at, most, prefix, names):
     for kind, supers, rank in kinds_of(at, prefix):
         go(kind, supers, rank, [], 0, 0)
     return {key: print_path(path) for key, (_, path) in best.items()}
+
+
+def path_to(workspace, at, definition, ns, prefix, most):
+    """The best path from a module to a definition, which is given as answers write it."""
+    best = paths_from(at, most, prefix, known_names(workspace))
+    return best.get((dump(definition), ns))
