@@ -154,8 +154,7 @@ impl<S: Sought> Gathering<'_, '_, S> {
         let Some(scope) = search.scope(module) else {
             return Ok(());
         };
-        let mut left = scope.entries();
-        'names: while let Some((name, items)) = left.next() {
+        for (name, items) in scope.entries() {
             self.meet(alloc, found, name, items)?;
         }
         Ok(())
@@ -167,8 +166,7 @@ impl<S: Sought> Gathering<'_, '_, S> {
         let Some(scope) = search.scope(module) else {
             return Ok(());
         };
-        let mut left = scope.legacy_macros();
-        'macros: while let Some(defined) = left.next() {
+        for defined in scope.legacy_macros() {
             let items = PerNs::macros(defined.makro, Visibility::Public, None);
             self.meet(alloc, found, &defined.name, items)?;
         }

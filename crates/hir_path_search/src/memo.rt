@@ -33,10 +33,12 @@ impl Memo {
         looks: Vec<Look>,
         ending: Option<Ending>,
     ) -> Result<(), AllocError> {
-        while self.known.len() <= left {
+        for _ in self.known.len()..left.saturating_add(1) {
             self.known.push(BTreeMap::new(self.alloc))?;
         }
-        self.known[left].insert(looks, ending)?;
+        if let Some(known) = self.known.get_mut(left) {
+            known.insert(looks, ending)?;
+        }
         Ok(())
     }
 }

@@ -87,8 +87,7 @@ impl<S: Sought> PathSearch<'_, S> {
         best: Option<Ending>,
     ) -> Result<Option<Ending>, AllocError> {
         let mut best = best;
-        let mut left = scope.entries();
-        'names: while let Some((name, items)) = left.next() {
+        for (name, items) in scope.entries() {
             if self.sought_in(alloc, items)?.is_some() {
                 best = better(best, self.last(alloc, looks, name)?);
             }
@@ -170,8 +169,7 @@ impl<S: Sought> PathSearch<'_, S> {
         scope: &ItemScope,
         steps: &mut Vec<Step>,
     ) -> Result<(), AllocError> {
-        let mut left = scope.types();
-        'names: while let Some((name, item)) = left.next() {
+        for (name, item) in scope.types() {
             if leads_on(item.def) {
                 if let Some(step) = self.step(alloc, looks, name)? {
                     steps.push(step)?;
@@ -350,19 +348,31 @@ impl<S: Sought> PathSearch<'_, S> {
                 (*kind, self.best(alloc, memo, segments - 1, looks.as_slice())?)
             }
             Start::Names(kind, first) => {
-                let ending = match segments {
-                    0 => None,
-                    1 => match &first.ending {
-                        Some(ending) => Some(ending.clone(alloc)?),
-                        None => None,
-                    },
-                    _ => self.best_through(alloc, memo, segments - 2, first.steps.as_slice())?,
-                };
-                (*kind, ending)
+                (*kind, self.best_of_names(alloc, memo, first, segments)?)
             }
         };
         match ending {
             Some(ending) => Ok(Some(path_of(alloc, kind, ending)?)),
+            None => Ok(None),
+        }
+    }
+
+    /// The best ending of so many segments that begins with one of these names.
+    fn best_of_names(
+        &self,
+        alloc: Global,
+        memo: &mut Memo,
+        first: &FirstNames,
+        segments: usize,
+    ) -> Result<Option<Ending>, AllocError> {
+        if segments >= 2 {
+            return self.best_through(alloc, memo, segments - 2, first.steps.as_slice());
+        }
+        if segments == 0 {
+            return Ok(None);
+        }
+        match &first.ending {
+            Some(ending) => Ok(Some(ending.clone(alloc)?)),
             None => Ok(None),
         }
     }
