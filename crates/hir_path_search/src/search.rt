@@ -16,6 +16,7 @@ use hir_nameres::nameres::path_resolution::query::Query;
 use hir_nameres::nameres::path_resolution::{BuiltinShadowMode, ResolveMode};
 use smallvec::SmallVec;
 use std::alloc::{AllocError, Global};
+use std::rc::Rc;
 
 /// Which starts of paths are looked at.
 #[derive(Clone, Copy, Debug, PartialEq, Eq)]
@@ -86,9 +87,58 @@ impl<S: Sought> PathSearch<'_, S> {
         scope: &ItemScope,
         best: Option<Ending>,
     ) -> Result<Option<Ending>, AllocError> {
+        match self.namespace {
+            Namespace::Types => self.last_type(alloc, looks, scope, best),
+            Namespace::Values => self.last_value(alloc, looks, scope, best),
+            Namespace::Macros => self.last_macro(alloc, looks, scope, best),
+        }
+    }
+
+    /// The best last name among those of a scope that stand for types, and one that is known.
+    fn last_type(
+        &self,
+        alloc: Global,
+        looks: &[Look],
+        scope: &ItemScope,
+        best: Option<Ending>,
+    ) -> Result<Option<Ending>, AllocError> {
         let mut best = best;
-        for (name, items) in scope.entries() {
-            if self.sought_in(alloc, items)?.is_some() {
+        for (name, item) in scope.types() {
+            if self.sought.is(alloc, item.def)? {
+                best = better(best, self.last(alloc, looks, name)?);
+            }
+        }
+        Ok(best)
+    }
+
+    /// The same of values.
+    fn last_value(
+        &self,
+        alloc: Global,
+        looks: &[Look],
+        scope: &ItemScope,
+        best: Option<Ending>,
+    ) -> Result<Option<Ending>, AllocError> {
+        let mut best = best;
+        for (name, item) in scope.values() {
+            if self.sought.is(alloc, item.def)? {
+                best = better(best, self.last(alloc, looks, name)?);
+            }
+        }
+        Ok(best)
+    }
+
+    /// The same of macros.
+    fn last_macro(
+        &self,
+        alloc: Global,
+        looks: &[Look],
+        scope: &ItemScope,
+        best: Option<Ending>,
+    ) -> Result<Option<Ending>, AllocError> {
+        let mut best = best;
+        for (name, item) in scope.macros() {
+            if self.sought.is(alloc, ModuleDefId::MacroId(item.def))? {
                 best = better(best, self.last(alloc, looks, name)?);
             }
         }
@@ -179,8 +229,23 @@ impl<S: Sought> PathSearch<'_, S> {
         Ok(())
     }
 
+    /// The names that lead on behind what a path has come to, which are looked for once.
+    fn steps(
+        &self,
+        alloc: Global,
+        memo: &mut Memo,
+        looks: &[Look],
+    ) -> Result<Rc<Vec<Step>>, AllocError> {
+        if let Some(steps) = memo.steps(looks) {
+            return steps.clone();
+        }
+        let steps = Rc::new(alloc, self.new_steps(alloc, looks)?)?;
+        memo.keep_steps(Vec::from_slice(alloc, looks)?, steps.clone()?)?;
+        Ok(steps)
+    }
+
     /// The names that lead on behind what a path has come to.
-    fn steps(&self, alloc: Global, looks: &[Look]) -> Result<Vec<Step>, AllocError> {
+    fn new_steps(&self, alloc: Global, looks: &[Look]) -> Result<Vec<Step>, AllocError> {
         let mut steps = Vec::new(alloc);
         for look in looks {
             if let ModuleDefId::ModuleId(module) = look.def {
@@ -223,7 +288,7 @@ impl<S: Sought> PathSearch<'_, S> {
         if left == 0 {
             return self.best_last(alloc, looks);
         }
-        let steps = self.steps(alloc, looks)?;
+        let steps = self.steps(alloc, memo, looks)?;
         self.best_through(alloc, memo, left - 1, steps.as_slice())
     }
 
