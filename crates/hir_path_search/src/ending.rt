@@ -38,12 +38,7 @@ impl Ending {
     }
 
     /// The segments behind one more, which names a module or an enum.
-    pub fn behind(
-        self,
-        name: &Name,
-        private: bool,
-        imported: bool,
-    ) -> Result<Ending, AllocError> {
+    pub fn behind(self, name: &Name, private: bool, imported: bool) -> Result<Ending, AllocError> {
         let mut names = self.names;
         names.insert(0, name.clone()?)?;
         Ok(Ending {

@@ -133,7 +133,13 @@ impl<S: Sought> Gathering<'_, '_, S> {
     }
 
     /// Looks at a name that stands for this somewhere.
-    fn meet(&self, alloc: Global, found: &mut FirstNames, name: &Name, items: PerNs) -> Result<(), AllocError> {
+    fn meet(
+        &self,
+        alloc: Global,
+        found: &mut FirstNames,
+        name: &Name,
+        items: PerNs,
+    ) -> Result<(), AllocError> {
         if self.search.sought_in(alloc, items)?.is_some() {
             self.end(alloc, found, name)?;
         }
@@ -149,7 +155,12 @@ impl<S: Sought> Gathering<'_, '_, S> {
     }
 
     /// The names of a module.
-    fn meet_scope(&self, alloc: Global, found: &mut FirstNames, module: ModuleId) -> Result<(), AllocError> {
+    fn meet_scope(
+        &self,
+        alloc: Global,
+        found: &mut FirstNames,
+        module: ModuleId,
+    ) -> Result<(), AllocError> {
         let search = self.search;
         let Some(scope) = search.scope(module) else {
             return Ok(());
@@ -161,7 +172,12 @@ impl<S: Sought> Gathering<'_, '_, S> {
     }
 
     /// The macros in textual scope in a module.
-    fn meet_textual_scope(&self, alloc: Global, found: &mut FirstNames, module: ModuleId) -> Result<(), AllocError> {
+    fn meet_textual_scope(
+        &self,
+        alloc: Global,
+        found: &mut FirstNames,
+        module: ModuleId,
+    ) -> Result<(), AllocError> {
         let search = self.search;
         let Some(scope) = search.scope(module) else {
             return Ok(());
@@ -179,7 +195,12 @@ impl<S: Sought> Gathering<'_, '_, S> {
             let def = ModuleDefId::BuiltinType(builtin);
             if self.search.sought.is(alloc, def)? {
                 let name = Name::of_valid(alloc, builtin.as_str())?;
-                self.meet(alloc, found, &name, PerNs::types(def, Visibility::Public, None))?;
+                self.meet(
+                    alloc,
+                    found,
+                    &name,
+                    PerNs::types(def, Visibility::Public, None),
+                )?;
             }
         }
         Ok(())
@@ -190,19 +211,34 @@ impl<S: Sought> Gathering<'_, '_, S> {
         let search = self.search;
         for (name, (module, _)) in search.local.extern_prelude() {
             let def = ModuleDefId::ModuleId(*module);
-            self.meet(alloc, found, name, PerNs::types(def, Visibility::Public, None))?;
+            self.meet(
+                alloc,
+                found,
+                name,
+                PerNs::types(def, Visibility::Public, None),
+            )?;
         }
         Ok(())
     }
 
     /// The macros of a `macro_use` prelude, and the names of the prelude module.
-    fn meet_preludes(&self, alloc: Global, found: &mut FirstNames, id: MapId) -> Result<(), AllocError> {
+    fn meet_preludes(
+        &self,
+        alloc: Global,
+        found: &mut FirstNames,
+        id: MapId,
+    ) -> Result<(), AllocError> {
         let search = self.search;
         let Some(map) = search.maps.map(id) else {
             return Ok(());
         };
         for (name, (makro, _)) in map.macro_use_prelude() {
-            self.meet(alloc, found, name, PerNs::macros(*makro, Visibility::Public, None))?;
+            self.meet(
+                alloc,
+                found,
+                name,
+                PerNs::macros(*makro, Visibility::Public, None),
+            )?;
         }
         match map.prelude() {
             Some((prelude, _)) => self.meet_scope(alloc, found, prelude),

@@ -30,11 +30,7 @@ impl Memo {
     }
 
     /// Keeps the names that lead on.
-    pub fn keep_steps(
-        &mut self,
-        looks: Vec<Look>,
-        steps: Rc<Vec<Step>>,
-    ) -> Result<(), AllocError> {
+    pub fn keep_steps(&mut self, looks: Vec<Look>, steps: Rc<Vec<Step>>) -> Result<(), AllocError> {
         self.steps.insert(looks, steps)?;
         Ok(())
     }

@@ -193,12 +193,7 @@ impl<S: Sought> PathSearch<'_, S> {
     }
 
     /// A name that others follow, where it leads on.
-    fn step(
-        &self,
-        alloc: Global,
-        looks: &[Look],
-        name: &Name,
-    ) -> Result<Option<Step>, AllocError> {
+    fn step(&self, alloc: Global, looks: &[Look], name: &Name) -> Result<Option<Step>, AllocError> {
         let Some(items) = joined_behind(&self.maps, looks, name) else {
             return Ok(None);
         };
@@ -410,7 +405,10 @@ impl<S: Sought> PathSearch<'_, S> {
                 if segments == 0 {
                     return self.root_alone(alloc, *kind, looks.as_slice());
                 }
-                (*kind, self.best(alloc, memo, segments - 1, looks.as_slice())?)
+                (
+                    *kind,
+                    self.best(alloc, memo, segments - 1, looks.as_slice())?,
+                )
             }
             Start::Names(kind, first) => {
                 (*kind, self.best_of_names(alloc, memo, first, segments)?)
@@ -543,9 +541,7 @@ pub fn find_path<S: Sought>(
     let starts = search.starts(alloc, prefix)?;
     let mut memo = Memo::new(alloc);
     for segments in 0..=most {
-        if let Some(path) =
-            search.best_of_starts(alloc, &mut memo, starts.as_slice(), segments)?
-        {
+        if let Some(path) = search.best_of_starts(alloc, &mut memo, starts.as_slice(), segments)? {
             return Ok(Some(path));
         }
     }

@@ -84,10 +84,7 @@ fn call_kind_by(attr: Option<u32>, index: Option<u32>) -> Result<SourceCallKind,
 }
 
 #[tactic(auto, unfolding(crate::specs::Definitions::call_kind_in))]
-fn read_call_kind(
-    alloc: Global,
-    members: &Map<String, Value>,
-) -> Result<SourceCallKind, ReadError>
+fn read_call_kind(alloc: Global, members: &Map<String, Value>) -> Result<SourceCallKind, ReadError>
     ensures value { Reads (λ k. k) (call_kind_in (members_view members.now.entries)) result }
 {
     match both(
@@ -166,11 +163,7 @@ fn read_root(alloc: Global, value: &Value) -> Result<SourceRoot, ReadError>
     }
 }
 
-fn read_source_from(
-    alloc: Global,
-    first: &Value,
-    others: &[Value],
-) -> Result<ItemSource, ReadError>
+fn read_source_from(alloc: Global, first: &Value, others: &[Value]) -> Result<ItemSource, ReadError>
     ensures value { Reads (λ s. s) (made (λ p. record { root = p.0; calls = p.1 })
         (paired (root_of (view first.now)) (each_of call_of (items_view others.now)))) result }
 {

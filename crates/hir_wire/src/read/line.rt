@@ -388,7 +388,10 @@ fn read_path_to(alloc: Global, members: &Map<String, Value>) -> Result<Command, 
         segments: USUAL_SEGMENTS,
     };
     match both(
-        both(required(alloc, members, "at"), required(alloc, members, "def")),
+        both(
+            required(alloc, members, "at"),
+            required(alloc, members, "def"),
+        ),
         both(
             required_word(members, "ns"),
             both(
