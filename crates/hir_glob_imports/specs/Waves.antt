@@ -16,7 +16,7 @@ use Rattle.hir_glob_imports.specs.declared.edge.Target.{Target}
 use Rattle.hir_glob_imports.specs.declared.edge.Target.TheVariants as target
 use Rattle.hir_glob_imports.specs.declared.edge.Update.{Update}
 use Rattle.hir_glob_imports.specs.declared.edge.Update.TheVariants.{Nothing}
-use Rattle.hir_glob_imports.specs.Brought.{BroughtNames, brought_in}
+use Rattle.hir_glob_imports.specs.ByName.{BroughtNames, brought_in}
 use Rattle.hir_glob_imports.specs.Keys.{slot_at, is_unnamed}
 use Rattle.hir_glob_imports.specs.Moves.{shown, brought_vis, is_as_seen, may_raise, same_def, same_vis, update_of}
 use Rattle.hir_glob_imports.specs.Rules.{BroughtBy, GlobState}

@@ -1,12 +1,13 @@
 //! Which edges brought what stands in slots, by module and name.
-ghost use Rattle.std.specs.Prelude.{◌≡◌, ◌<◌, ℕ, None, OnOk, length};
+ghost use Rattle.std.specs.Prelude.{◌≡◌, false, None, OnOk};
 ghost use Rattle.std.specs.BTreeMap.{is_at};
 ghost use Rattle.std.specs.Map.{lookup};
 ghost use Rattle.std.specs.Option.{option_copied};
 ghost use Rattle.std.specs.Ordering.{nat_cmp};
 ghost use Rattle.hir_glob_imports.specs.declared.edge.Key.{Key};
 ghost use Rattle.hir_glob_imports.specs.declared.edge.Slot.{Slot};
-ghost use Rattle.hir_glob_imports.specs.Brought.{brought_among, brought_in, brought_by, joined, type_among, value_among, macro_among};
+ghost use Rattle.hir_glob_imports.specs.Keys.{is_unnamed};
+ghost use Rattle.hir_glob_imports.specs.ByName.{brought_among, brought_in, brought_by, joined, type_among, value_among, macro_among};
 ghost use Rattle.hir_glob_imports.specs.Rules.{with_brought};
 
 use crate::edge::{Brought, Key, Slot};
@@ -19,7 +20,7 @@ use std::collections::BTreeMap;
 pub(crate) type BroughtNames = EntryList<Option<Brought>, Option<Brought>, Option<Brought>>;
 
 fn joined(by: Option<&Option<Brought>>) -> Option<Brought>
-    ensures value { result ≡ joined (option_copied by) }
+    ensures value { result ≡ joined (option_copied by.entry) }
 {
     match by {
         Some(by) => *by,
@@ -67,11 +68,7 @@ fn brought_among(names: &BroughtNames, key: &Key) -> Option<Brought>
 }
 
 /// Writes what brought what stands at a key of a module.
-fn write_among(
-    names: &mut BroughtNames,
-    key: &Key,
-    by: Option<Brought>,
-) -> Result<(), AllocError>
+fn write_among(names: &mut BroughtNames, key: &Key, by: Option<Brought>) -> Result<(), AllocError>
     ensures ok { OnOk result ((other : Key) → brought_among names.new other ≡ brought_by key.now by (brought_among names.old) other) }
 {
     match key {
@@ -83,10 +80,7 @@ fn write_among(
 }
 
 /// What brought what stands in a slot.
-pub(crate) fn brought_at(
-    modules: &BTreeMap<u32, BroughtNames>,
-    slot: &Slot,
-) -> Option<Brought>
+pub(crate) fn brought_at(modules: &BTreeMap<u32, BroughtNames>, slot: &Slot) -> Option<Brought>
     ensures value { result ≡ brought_in (lookup (is_at (nat_cmp slot.now.at)) modules.now.entries) slot.now.key }
 {
     match modules.get(&slot.at) {

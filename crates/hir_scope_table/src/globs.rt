@@ -4,9 +4,9 @@ ghost use Rattle.std.specs.Cmp.{IsTotalOrder};
 ghost use Rattle.std.specs.List.Sorted.{IsStrictlySortedBy};
 ghost use Rattle.hir_scope_table.specs.Entries.{item_at};
 ghost use Rattle.hir_scope_table.specs.Globs.{Place, place_cmp, has_place, with_place, without_place};
-ghost use Rattle.hir_scope_table.specs.Inner.Places.{places_of};
-ghost use Rattle.hir_scope_table.specs.Slots.{values_in};
+ghost use Rattle.hir_scope_table.specs.Inner.Places.{places_of, AreNamesSorted};
 ghost use Rattle.hir_scope_table.specs.Inner.Reserved.{IsKeyFor};
+ghost use Rattle.hir_scope_table.specs.Slots.{values_in};
 
 use crate::entry_list::EntryList;
 use hir_ids::ids::ModuleId;
@@ -15,11 +15,13 @@ use std::alloc::{AllocError, Global};
 use std::collections::BTreeMap;
 use std::marker::Model;
 
+/// Names that have a value, and nothing else.
+type Names = EntryList<(), (), ()>;
+
 /// The names of modules that stand for what a glob brought.
 #[derive(Drop)]
 pub struct Globs {
-    /// By module, the names that have a value here.
-    modules: BTreeMap<ModuleId, EntryList<(), (), ()>>,
+    modules: BTreeMap<ModuleId, Names>,
     alloc: Global,
 }
 
@@ -29,9 +31,11 @@ impl Model for Globs {
 
     ghost Value = { List Place };
 
-    ghost use Rattle.hir_scope_table.specs.Inner.Places.{places_of};
+    ghost use Rattle.hir_scope_table.specs.Inner.Places.{places_of, AreNamesSorted};
 
     ghost view = { λ g. places_of g.modules.entries };
+
+    ghost invariant = { λ g. AreNamesSorted g.modules.entries };
 }
 
 impl Globs {
@@ -48,10 +52,7 @@ impl Globs {
     pub fn contains(&self, place: &(ModuleId, Name)) -> bool
         ensures value { result ≡ has_place self.now place.now }
     {
-        match self.modules.get(&place.0) {
-            Some(names) => is_among(names, &place.1),
-            None => false,
-        }
+        is_among(&self.modules, place)
     }
 
     // Each name of a module is there once, since the places are in order.
@@ -91,13 +92,11 @@ impl Globs {
     pub(crate) fn remove(&mut self, at: &(ModuleId, Name))
         ensures value { self.new ≡ without_place self.old at.now }
     {
-        if let Some(names) = self.modules.get_mut(&at.0) {
-            names.remove_value(&at.1);
-        }
+        take_out(&mut self.modules, at);
     }
 }
 
-fn is_among(names: &EntryList<(), (), ()>, name: &Name) -> bool
+fn has_value(names: &Names, name: &Name) -> bool
     ensures value { result ≡ is_some (item_at (values_in names.now) name.now) }
 {
     match names.get(name) {
@@ -106,31 +105,65 @@ fn is_among(names: &EntryList<(), (), ()>, name: &Name) -> bool
     }
 }
 
-/// Adds a place that isn't there.
+fn is_among(modules: &BTreeMap<ModuleId, Names>, at: &(ModuleId, Name)) -> bool
+    ensures value { result ≡ has_place (places_of modules.now.entries) at.now }
+{
+    let _ = modules.len();
+    match modules.get(&at.0) {
+        Some(names) => has_value(names, &at.1),
+        None => false,
+    }
+}
+
+/// Adds a place.
 fn add(
     alloc: Global,
-    modules: &mut BTreeMap<ModuleId, EntryList<(), (), ()>>,
+    modules: &mut BTreeMap<ModuleId, Names>,
     at: &(ModuleId, Name),
 ) -> Result<(), AllocError>
+    requires sorted { AreNamesSorted modules.old.entries }
     ensures ok { OnOk result (places_of modules.new.entries ≡ with_place (places_of modules.old.entries) at.now) }
     ensures err { OnErr result (places_of modules.new.entries ≡ places_of modules.old.entries) }
+    ensures sorted { AreNamesSorted modules.new.entries }
 {
+    let _ = modules.len();
     match modules.get_mut(&at.0) {
-        Some(names) => names.write(&at.1, None, Some(()), None),
+        Some(names) => {
+            let added = names.write(&at.1, None, Some(()), None);
+            names.is_kept();
+            added
+        }
         None => add_first(alloc, modules, at),
     }
 }
 
+/// Adds the first place of a module.
 fn add_first(
     alloc: Global,
-    modules: &mut BTreeMap<ModuleId, EntryList<(), (), ()>>,
+    modules: &mut BTreeMap<ModuleId, Names>,
     at: &(ModuleId, Name),
 ) -> Result<(), AllocError>
+    requires sorted { AreNamesSorted modules.old.entries }
     ensures ok { OnOk result (places_of modules.new.entries ≡ with_place (places_of modules.old.entries) at.now) }
     ensures err { OnErr result (places_of modules.new.entries ≡ places_of modules.old.entries) }
+    ensures sorted { AreNamesSorted modules.new.entries }
 {
-    let mut names = EntryList::new(alloc);
+    let mut names = Names::new(alloc);
     names.write(&at.1, None, Some(()), None)?;
+    names.is_kept();
     modules.insert(at.0, names)?;
     Ok(())
+}
+
+/// Takes out a place.
+fn take_out(modules: &mut BTreeMap<ModuleId, Names>, at: &(ModuleId, Name))
+    requires sorted { AreNamesSorted modules.old.entries }
+    ensures value { places_of modules.new.entries ≡ without_place (places_of modules.old.entries) at.now }
+    ensures sorted { AreNamesSorted modules.new.entries }
+{
+    let _ = modules.len();
+    if let Some(names) = modules.get_mut(&at.0) {
+        names.remove_value(&at.1);
+        names.is_kept();
+    }
 }
