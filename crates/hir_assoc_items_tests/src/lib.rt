@@ -4,8 +4,4 @@
 #[cfg(test)]
 mod diagnostics;
 #[cfg(test)]
-mod lists;
-#[cfg(test)]
-mod queries;
-#[cfg(test)]
 mod readers;

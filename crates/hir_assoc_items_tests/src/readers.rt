@@ -13,8 +13,7 @@ use std::alloc::Global;
 use std::process::Abort;
 use std::test::Fail;
 
-/// The file of all nodes.
-pub const FILE: HirFileId = HirFileId::File(EditionedFileId {
+const FILE: HirFileId = HirFileId::File(EditionedFileId {
     file_id: FileId(0),
     edition: Edition::Edition2021,
 });
