@@ -109,7 +109,7 @@ def by_nesting(place):
 
 def many_blocks(n):
     """n blocks in a hundred modules, every tenth in the one before it, and then 16 in one another; a block in the last of these is
-    refused, and changes nothing."""
+    refused, as are other wrong places and a repeated id, and none of these changes anything."""
     yield crates(), OK
     yield set_file("lib.rs", *(node("Module", k, f"m{k}", nodes=[]) for k in range(100))), OK
     places = []
@@ -124,6 +124,11 @@ def many_blocks(n):
         yield set_block(place, node("Struct", 1, "S")), OK
     yield set_block(inner[16], node("Struct", 1, "S")), too_large("blocks")
     yield {"do": "remove block", "at": inner[16]}, too_large("blocks")
+    yield set_block([0, {"block": [0, 2048]}], node("Struct", 1, "S")), too_large("index")
+    yield set_block([1, block(0)], node("Struct", 1, "S")), {"error": "unknown crate"}
+    yield set_block([0, "m0"], node("Struct", 1, "S")), {"error": "command"}
+    yield set_block(places[0], node("Struct", 1, "A"), node("Struct", 1, "B")), {"error": "duplicate id", "id": [1, 0], "kind": "Struct"}
+    yield status(*places[0]), CURRENT
     yield REFRESH, {"ok": inner[:16]}
     yield status(*inner[15]), CURRENT
     yield status(*inner[16]), UNKNOWN
