@@ -12,7 +12,7 @@ use std::process::Command;
 use crate::common::client::{program, Client};
 #[cfg(unix)]
 use crate::common::write_script;
-use crate::common::{market, own};
+use crate::common::{market, own, server_on_path};
 use cargo_nogsimat::lsp::message;
 use cargo_nogsimat::lsp::text::Text;
 use cargo_nogsimat::program::Program;
@@ -390,15 +390,11 @@ fn a_request_at_which_the_program_dies() {
 
 /// Runs a script in Neovim without a screen, behind a configuration. None where Neovim isn't installed.
 fn in_neovim(folder: &Path, configuration: &str, script: &str) -> Option<(String, String)> {
-    let server = Path::new(env!("CARGO_BIN_EXE_cargo-nogsimat"));
-    let path = std::env::var_os("PATH").unwrap_or_default();
-    let path =
-        std::env::join_paths(server.parent().map(Path::to_owned).into_iter().chain(std::env::split_paths(&path)));
     let made = Command::new("nvim")
         .args(["--headless", "-u", configuration, "-i", "NONE", "-n", "-c"])
         .arg(format!("luafile {}", own(script).display()))
-        .env("SERVER", server)
-        .env("PATH", path.unwrap())
+        .env("SERVER", env!("CARGO_BIN_EXE_cargo-nogsimat"))
+        .env("PATH", server_on_path())
         .env("FOLDER", folder.canonicalize().unwrap())
         .env("XDG_STATE_HOME", folder.join("state"))
         .env("XDG_CACHE_HOME", folder.join("cache"))
