@@ -397,9 +397,8 @@ impl Workspace {
             let mut pending = Vec::new();
             on_a_thread(|| walked.iter().try_for_each(|it| self.walk(*it, &mut lines, &mut pending)))?;
             let changed = self.leave_out(&mut lines);
-            // Where the walk comes upon anything else than before, what is told is asked.
-            let is_same = is_same && round == 1 && lines.is_empty() && pending.is_empty() && changed.is_empty();
-            if !changed.is_empty() {
+            let leaves_the_same_out = changed.is_empty();
+            if !leaves_the_same_out {
                 asked.clear();
                 let more: Vec<u32> = changed.into_iter().filter(|it| !walked.contains(it)).collect();
                 on_a_thread(|| more.iter().try_for_each(|it| self.walk(*it, &mut lines, &mut pending)))?;
@@ -408,6 +407,8 @@ impl Workspace {
             for (krate, key, expansion) in pending {
                 self.set_expansion(krate, key, &expansion, &mut lines);
             }
+            // Where the walk comes upon anything else than before, what is told is asked.
+            let is_same = is_same && round == 1 && leaves_the_same_out && lines.is_empty();
             keys.extend(self.keys_of(&walked));
             let built = self.build_files(keys, &mut lines)?;
             self.set_blocks(&walked, &built, &mut lines);

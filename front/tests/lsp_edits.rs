@@ -132,10 +132,9 @@ fn random_edits_beside_a_fresh_server() {
         let at = if is_half { halves[dice.below(halves.len())] } else { dice.below(FILES.len()) };
         let (range, new) = match act {
             // Back to where it parsed.
-            0 | 1 if is_half => (0..texts[at].len(), parsed[at].clone()),
-            2 => half_edit(&texts[at], &mut dice),
-            3 if is_half => half_edit(&texts[at], &mut dice),
-            _ => edit(&texts[at], number, &mut dice),
+            0 if is_half => (0..texts[at].len(), parsed[at].clone()),
+            0 | 1 if !is_half => edit(&texts[at], number, &mut dice),
+            _ => half_edit(&texts[at], &mut dice),
         };
         let shown = Text::new(texts[at].clone()).range_of(range.clone());
         texts[at].replace_range(range, &new);
@@ -514,7 +513,8 @@ fn items_that_nothing_names_wait() {
 #[cfg(unix)]
 #[test]
 fn what_is_known_is_not_asked_again() {
-    let text = "mod a;\nuse crate::nothing;\nuse crate::a::*;\nuse crate::a::Kind::{One, Two};\n";
+    let text = "mod a;\nuse crate::nothing;\nuse crate::a::*;\nuse crate::a::Kind::{One, Two};\n\
+        macro_rules! m { () => { pub struct Brought; } }\nm!();\n";
     let folder = package(&[("src/lib.rs", text), ("src/a.rs", "pub enum Kind { One }\n")]);
     let (log, script) = (folder.path().join("log"), folder.path().join("program"));
     let logged = logged(&log.to_string_lossy(), &program().to_string_lossy());
