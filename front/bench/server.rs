@@ -51,6 +51,11 @@ impl Server {
         }
     }
 
+    /// Waits until what was sent is handed in, and what is told of it is published.
+    fn settle(&mut self) -> Result<()> {
+        (0..2).try_for_each(|_| self.ask("textDocument/hover", json!({})).map(drop))
+    }
+
     /// Waits until diagnostics are published.
     fn published(&mut self) -> Result<()> {
         loop {
@@ -98,7 +103,7 @@ impl Opened<'_> {
         let document = json!({"uri": uri, "languageId": "rust", "version": 1, "text": text});
         server.notify("textDocument/didOpen", json!({"textDocument": document}))?;
         // A request without a place, so that its answer takes no time of its own.
-        server.ask("textDocument/hover", json!({}))?;
+        server.settle()?;
         let program = server.children().first().copied().unwrap_or_default();
         let processes = [server.child.id(), program];
         Ok(Opened { cli, server, uri, text, processes })
@@ -114,6 +119,8 @@ impl Opened<'_> {
             self.server.notify("textDocument/didChange", change)?;
             self.server.ask("textDocument/hover", json!({}))?;
             times.push(start.elapsed().as_secs_f64() * 1000.0);
+            // What is told of the edit comes before the next answer.
+            self.server.ask("textDocument/hover", json!({}))?;
         }
         let after = self.processes.map(processor_of);
         told(what, times, [after[0] - before[0], after[1] - before[1]]);
@@ -138,7 +145,7 @@ impl Opened<'_> {
         }
         let after = self.processes.map(processor_of);
         told(what, times, [after[0] - before[0], after[1] - before[1]]);
-        self.server.ask("textDocument/hover", json!({}))?;
+        self.server.settle()?;
         Ok(())
     }
 
@@ -157,7 +164,7 @@ impl Opened<'_> {
                 self.server.published()?;
                 times[at].push(start.elapsed().as_secs_f64() * 1000.0);
                 // What waits is handed in, so that each edit is one of what the program has.
-                self.server.ask("textDocument/hover", json!({}))?;
+                self.server.settle()?;
                 let after = self.processes.map(processor_of);
                 (0..2).for_each(|it| of_processor[at][it] += after[it] - before[it]);
             }
@@ -185,7 +192,7 @@ impl Opened<'_> {
         let place = |character: usize| json!({"line": line, "character": character});
         let before = format!("fn typed() {{ {path}");
         self.change(place(0), place(0), &format!("{before} }}\n"))?;
-        self.server.ask("textDocument/hover", json!({}))?;
+        self.server.settle()?;
         let (mut times, mut count) = (Vec::new(), 0);
         let of_processor = self.processes.map(processor_of);
         for it in 0..self.cli.edits {

@@ -118,6 +118,8 @@ struct Document {
     /// The text from which the items of the file were read.
     good: Option<Arc<Text>>,
     is_dirty: bool,
+    /// What stands in a text that isn't handed in, where it was read.
+    typed: Option<Parsed>,
     waits: Option<Waiting>,
 }
 
@@ -151,6 +153,8 @@ struct Server<W: Write> {
     /// The files of which diagnostics speak.
     touched: HashSet<Key>,
     needs_report: bool,
+    /// Whether an answer went out since a report was due.
+    has_answered: bool,
     /// When the program was started again.
     restarts: Vec<Instant>,
     /// How often it was since some work with it was done.
@@ -194,6 +198,7 @@ impl<W: Write> Server<W> {
             published: BTreeMap::new(),
             touched: HashSet::new(),
             needs_report: false,
+            has_answered: false,
             restarts: Vec::new(),
             failures: 0,
             has_nested_symbols: false,
@@ -300,7 +305,7 @@ impl<W: Write> Server<W> {
                     self.space = None;
                 }
                 // It may be one of these texts that can't be read. The next edit tries again.
-                self.documents.values_mut().for_each(|it| (it.is_dirty, it.waits) = (false, None));
+                self.documents.values_mut().for_each(|it| (it.is_dirty, it.typed, it.waits) = (false, None, None));
                 Ok(None)
             }
         }
@@ -335,10 +340,7 @@ impl<W: Write> Server<W> {
             "textDocument/definition" => self.flushed()?.definition(params)?,
             "textDocument/hover" => self.flushed()?.hover(params)?,
             "textDocument/references" => self.flushed()?.references(params)?,
-            "textDocument/documentSymbol" => {
-                self.flush(true)?;
-                self.symbols(params)
-            }
+            "textDocument/documentSymbol" => self.symbols(params),
             "textDocument/codeAction" => self.flushed()?.code_actions(params)?,
             "workspace/symbol" => Ok(self.flushed()?.found_symbols(params)),
             "textDocument/completion" => self.flushed()?.completion(params)?,
@@ -346,8 +348,13 @@ impl<W: Write> Server<W> {
         })
     }
 
+    /// Hands in what was typed. What is told of it is published behind the answer of one request, before that of the next.
     fn flushed(&mut self) -> Result<&mut Self> {
-        self.flush(false)?;
+        self.read_typed(false)?;
+        if self.has_answered {
+            self.publish_report()?;
+        }
+        self.has_answered = self.needs_report;
         Ok(self)
     }
 
@@ -428,7 +435,7 @@ impl<W: Write> Server<W> {
         let is_known = self.space.as_ref().is_some_and(|it| it.built(&key).is_some());
         let good = is_known.then(|| self.unit_text(&key));
         self.texts.remove(&key);
-        let document = Document { uri: uri.to_owned(), text, good, is_dirty: true, waits: None };
+        let document = Document { uri: uri.to_owned(), text, good, is_dirty: true, typed: None, waits: None };
         self.documents.insert(key.clone(), document);
         self.needs_report |= self.is_renamed(&key);
         match self.space.is_none() && self.package().is_none() {
@@ -455,7 +462,7 @@ impl<W: Write> Server<W> {
             };
             Arc::make_mut(&mut document.text).edit(range, new);
         }
-        document.is_dirty = true;
+        (document.is_dirty, document.typed) = (true, None);
     }
 
     /// Has a file count as it is on the disk that was closed in the editor.

@@ -113,8 +113,8 @@ pub struct Call {
     pub identity: Hash,
     /// Whether it stands in a block, where it may expand to more than items.
     pub is_statement: bool,
-    /// Whether blocks with items are in what it is given, and that isn't Rust, as of `cfg_if!`: those items may be what
-    /// it expands to.
+    /// Whether items are in what it is given, as of `thread_local!`, or blocks with items where that isn't Rust, as of
+    /// `cfg_if!`: those items may be what it expands to.
     pub may_give_back_items: bool,
 }
 

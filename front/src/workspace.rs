@@ -273,6 +273,9 @@ pub struct Workspace {
     pub(crate) reached: Since<Vec<(usize, Value)>>,
     /// The modules of a crate with a glob, each with where that leads.
     pub(crate) globs: Since<Vec<(Vec<String>, Leads)>>,
+    /// The texts of files by which, for what the program has, a report would be the same: their hashes, and by what that is
+    /// known.
+    same: HashMap<Key, (Hash, SameBy)>,
     names: Names,
     progress: Progress,
 }
@@ -351,6 +354,7 @@ impl Workspace {
             past_items: HashMap::new(),
             reached: HashMap::new(),
             globs: HashMap::new(),
+            same: HashMap::new(),
             names: Names::default(),
             progress,
         };
@@ -361,27 +365,28 @@ impl Workspace {
         space.hand_in_crates()?;
         // What is in the prelude decides what is handed in of the others.
         let (of_std, all) = (space.crates.of_std as u32, space.crates.all.len() as u32);
-        space.settle_once(&(0..of_std).collect::<Vec<_>>())?;
+        space.settle_once(&(0..of_std).collect::<Vec<_>>(), false)?;
         space.find_preludes()?;
-        space.settle(&(0..all).collect::<Vec<_>>())?;
+        space.settle(&(0..all).collect::<Vec<_>>(), false)?;
         Ok(space)
     }
 
     /// Walks the crates, hands in what changed, and goes on until nothing that a call expands to is absent.
-    /// Answers which crates the program resolved.
-    fn settle(&mut self, crates: &[u32]) -> Result<Vec<u32>> {
-        let mut resolved = self.settle_once(crates)?;
+    /// Answers which crates the program resolved. With `is_same` what is told of them stays the same.
+    fn settle(&mut self, crates: &[u32], is_same: bool) -> Result<Vec<u32>> {
+        self.same.clear();
+        let mut resolved = self.settle_once(crates, is_same)?;
         let is_of_std = |it: &u32| (*it as usize) < self.crates.of_std;
         if resolved.iter().any(is_of_std) && self.find_preludes()? {
             let all: Vec<u32> = (0..self.crates.all.len() as u32).collect();
-            resolved.extend(self.settle_once(&all)?);
+            resolved.extend(self.settle_once(&all, false)?);
             resolved.sort_unstable();
             resolved.dedup();
         }
         Ok(resolved)
     }
 
-    fn settle_once(&mut self, crates: &[u32]) -> Result<Vec<u32>> {
+    fn settle_once(&mut self, crates: &[u32], is_same: bool) -> Result<Vec<u32>> {
         let mut walk: Vec<u32> = crates.to_vec();
         let mut resolved = HashSet::new();
         let mut asked: HashSet<String> = HashSet::new();
@@ -392,7 +397,8 @@ impl Workspace {
             let mut pending = Vec::new();
             on_a_thread(|| walked.iter().try_for_each(|it| self.walk(*it, &mut lines, &mut pending)))?;
             let changed = self.leave_out(&mut lines);
-            if !changed.is_empty() {
+            let leaves_the_same_out = changed.is_empty();
+            if !leaves_the_same_out {
                 asked.clear();
                 let more: Vec<u32> = changed.into_iter().filter(|it| !walked.contains(it)).collect();
                 on_a_thread(|| more.iter().try_for_each(|it| self.walk(*it, &mut lines, &mut pending)))?;
@@ -401,6 +407,8 @@ impl Workspace {
             for (krate, key, expansion) in pending {
                 self.set_expansion(krate, key, &expansion, &mut lines);
             }
+            // Where the walk comes upon anything else than before, what is told is asked.
+            let is_same = is_same && round == 1 && leaves_the_same_out && lines.is_empty();
             keys.extend(self.keys_of(&walked));
             let built = self.build_files(keys, &mut lines)?;
             self.set_blocks(&walked, &built, &mut lines);
@@ -416,10 +424,12 @@ impl Workspace {
             }
             (self.progress)("resolving", round, round);
             resolved.extend(&due);
-            for it in &due {
-                self.states[*it as usize].resolved += 1;
-                self.told.remove(it);
+            due.iter().for_each(|it| self.states[*it as usize].resolved += 1);
+            if is_same && self.refused.is_empty() {
+                self.keep_told(&due);
+                break;
             }
+            due.iter().for_each(|it| drop(self.told.remove(it)));
             let mut changed = HashSet::new();
             let mut lines = Vec::new();
             for (krate, told) in due.iter().zip(self.diagnostics(&due)?) {
@@ -437,6 +447,21 @@ impl Workspace {
         let mut resolved: Vec<u32> = resolved.into_iter().collect();
         resolved.sort_unstable();
         Ok(resolved)
+    }
+
+    /// Has what was known of these crates before they were resolved last count for how they are now.
+    fn keep_told(&mut self, crates: &[u32]) {
+        fn keep<T>(known: &mut Since<T>, krate: u32, times: usize) {
+            if let Some(it) = known.get_mut(&krate).filter(|it| it.0 + 1 == times) {
+                it.0 = times;
+            }
+        }
+        for it in crates {
+            let times = self.states[*it as usize].resolved;
+            keep(&mut self.past_items, *it, times);
+            keep(&mut self.reached, *it, times);
+            keep(&mut self.globs, *it, times);
+        }
     }
 
     /// What the program tells of these crates. It is asked once after each time that it resolved a crate.
@@ -519,7 +544,7 @@ impl Workspace {
         let lines = self.session();
         self.program.ask_all(&lines)?;
         let all: Vec<u32> = (0..self.crates.all.len() as u32).collect();
-        self.settle(&all)?;
+        self.settle(&all, false)?;
         Ok(())
     }
 

@@ -3,7 +3,7 @@
 use std::path::Path;
 use std::process::Command;
 
-use crate::common::own;
+use crate::common::{market, own, server_on_path};
 use serde_json::{json, Value};
 use tempfile::TempDir;
 
@@ -86,4 +86,28 @@ fn the_extension_of_vs_code() {
     if passes(Command::new("node").arg("--check").arg(&main)).is_none() {
         eprintln!("node isn't installed: not tried");
     }
+}
+
+/// The extension itself, with a client that stands for the one of VS Code.
+#[test]
+fn the_extension_at_work() {
+    let folder = market();
+    let made = Command::new("node")
+        .args([own("tests/lsp/vscode.js"), own("editors/vscode/extension.js"), folder.path().canonicalize().unwrap()])
+        .arg("shop/src/report.rs")
+        .env("PATH", server_on_path())
+        .output();
+    let Ok(made) = made else {
+        eprintln!("node isn't installed: not tried");
+        return;
+    };
+    let told = String::from_utf8_lossy(&made.stdout);
+    let wanted = "setting nogsimat.options\n\
+        client nogsimat for [{\"scheme\":\"file\",\"language\":\"rust\"}]\n\
+        cargo nogsimat lsp --no-std\n\
+        server: cargo-nogsimat\n\
+        shop/src/report.rs:6: unresolved import `crate::price::Rebate`\n\
+        definition: shop/src/price.rs 2\n\
+        status: 0\n";
+    assert_eq!(told, wanted, "{}", String::from_utf8_lossy(&made.stderr));
 }

@@ -3,20 +3,38 @@
 //! The files `lsp/*.jsonl` hold what is sent and what comes back, one JSON object a line: `send` and `receive` with a
 //! message, `write` and `remove` with a file below the package's folder, `until` with the number of a request that has to
 //! be answered before what follows is done, `say` for the reader. After each run of lines that do something comes what
-//! the server sends until it has done all of that, or null where that is nothing. `DIR` stands for the package's folder.
+//! the server sends until it has done all of that, or null where that is nothing; behind the rest the lists of diagnostics
+//! that are others then. `DIR` stands for the package's folder.
 //! `session.jsonl` is the recorded session of `lsp_edits.rs`. With the variable `UPDATE` set the files are written anew.
 
+use std::collections::BTreeMap;
 use std::path::{Path, PathBuf};
 use std::process::Command;
 
 use crate::common::client::{program, Client};
 #[cfg(unix)]
 use crate::common::write_script;
-use crate::common::{market, own};
+use crate::common::{market, own, server_on_path};
 use cargo_nogsimat::lsp::message;
 use cargo_nogsimat::lsp::text::Text;
 use cargo_nogsimat::program::Program;
 use serde_json::{json, Value};
+
+/// What is told comes before an answer or behind it, as the server gets to it, and what is out of date by then may be left
+/// out: behind the rest stand the lists that are others now than those in `told`, which are kept there.
+fn settled(received: Vec<Value>, told: &mut BTreeMap<String, Value>) -> Vec<Value> {
+    let is_list = |it: &Value| it["method"] == "textDocument/publishDiagnostics";
+    let (lists, mut made): (Vec<Value>, Vec<Value>) = received.into_iter().partition(is_list);
+    let uri = |it: &Value| it["params"]["uri"].as_str().unwrap().to_owned();
+    let last: BTreeMap<String, Value> = lists.into_iter().map(|it| (uri(&it), it)).collect();
+    for (uri, list) in last {
+        let before = told.insert(uri, list["params"]["diagnostics"].clone()).unwrap_or(json!([]));
+        if before != list["params"]["diagnostics"] {
+            made.push(list);
+        }
+    }
+    made
+}
 
 /// Runs the messages of a file; answers the status with which the server ends.
 fn run(name: &str) -> i32 {
@@ -32,7 +50,7 @@ fn run_with(name: &str, folder: &Path, mut client: Client) -> i32 {
     let lines: Vec<Value> = text.lines().map(|it| serde_json::from_str(it).unwrap()).collect();
     let mut made = Vec::new();
     let mut block = Vec::new();
-    let mut received = Vec::new();
+    let (mut received, mut told) = (Vec::new(), BTreeMap::new());
     let acts = |it: &Value| it.get("receive").is_none();
     for (at, line) in lines.iter().enumerate() {
         if !acts(line) {
@@ -56,10 +74,11 @@ fn run_with(name: &str, folder: &Path, mut client: Client) -> i32 {
         let is_last = lines.get(at + 1).map_or(true, |it| !acts(it) || it.get("say").is_some());
         if is_last && !(block.is_empty() && received.is_empty()) {
             received.extend(client.exchange(&std::mem::take(&mut block)));
+            let received = settled(std::mem::take(&mut received), &mut told);
             if received.is_empty() {
                 made.push(json!({"receive": null}));
             }
-            made.extend(received.drain(..).map(|it| json!({"receive": it})));
+            made.extend(received.into_iter().map(|it| json!({"receive": it})));
         }
     }
     let written: String = made.iter().map(|it| format!("{it}\n")).collect();
@@ -282,11 +301,15 @@ fn progress_while_a_package_is_opened() {
         let before = client.receive_to(|it| it["id"] == "one");
         assert_eq!(before.last().unwrap()["error"]["code"], message::REQUEST_CANCELLED);
         std::fs::write(&gate, "").unwrap();
-        let after = client.receive_to(|it| it["id"] == "two");
+        let mut after = client.receive_to(|it| it["id"] == "two");
         assert!(after.last().unwrap()["result"]["contents"]["value"]
             .as_str()
             .unwrap()
             .contains("`shop::price::Price`"));
+        let is_list = |it: &Value| it["method"] == "textDocument/publishDiagnostics";
+        if !after.iter().any(is_list) {
+            after.extend(client.receive_to(is_list));
+        }
         let all: Vec<&Value> = before.iter().chain(&after).collect();
         let told: Vec<String> = all.iter().filter_map(|it| kind(it)).collect();
         if !is_shown {
@@ -300,7 +323,7 @@ fn progress_while_a_package_is_opened() {
         // The end comes before what was found.
         let place = |holds: &dyn Fn(&Value) -> bool| after.iter().position(holds).unwrap();
         let end = place(&|it| kind(it).as_deref() == Some("end"));
-        assert!(end < place(&|it| it["method"] == "textDocument/publishDiagnostics"), "{after:?}");
+        assert!(end < place(&is_list), "{after:?}");
     }
 }
 
@@ -390,15 +413,11 @@ fn a_request_at_which_the_program_dies() {
 
 /// Runs a script in Neovim without a screen, behind a configuration. None where Neovim isn't installed.
 fn in_neovim(folder: &Path, configuration: &str, script: &str) -> Option<(String, String)> {
-    let server = Path::new(env!("CARGO_BIN_EXE_cargo-nogsimat"));
-    let path = std::env::var_os("PATH").unwrap_or_default();
-    let path =
-        std::env::join_paths(server.parent().map(Path::to_owned).into_iter().chain(std::env::split_paths(&path)));
     let made = Command::new("nvim")
         .args(["--headless", "-u", configuration, "-i", "NONE", "-n", "-c"])
         .arg(format!("luafile {}", own(script).display()))
-        .env("SERVER", server)
-        .env("PATH", path.unwrap())
+        .env("SERVER", env!("CARGO_BIN_EXE_cargo-nogsimat"))
+        .env("PATH", server_on_path())
         .env("FOLDER", folder.canonicalize().unwrap())
         .env("XDG_STATE_HOME", folder.join("state"))
         .env("XDG_CACHE_HOME", folder.join("cache"))

@@ -52,6 +52,67 @@ fn edit(text: &str, number: usize, dice: &mut Dice) -> (std::ops::Range<usize>, 
     }
 }
 
+/// What may be typed in the midst of a file, so that for a while it mostly doesn't parse.
+const HALVES: [&str; 12] = ["{", "}", "(", ")", "\"", "/*", "use ", "pub fn f", "struct", "mod m {", "::", "r#\"🦀"];
+
+/// An edit after which a text mostly doesn't parse: a few characters come or go anywhere in it.
+fn half_edit(text: &str, dice: &mut Dice) -> (std::ops::Range<usize>, String) {
+    let starts: Vec<usize> = text.char_indices().map(|it| it.0).chain([text.len()]).collect();
+    let at = dice.below(starts.len());
+    match dice.below(3) {
+        0 => (starts[at]..starts[(at + 1 + dice.below(8)).min(starts.len() - 1)], String::new()),
+        _ => (starts[at]..starts[at], HALVES[dice.below(HALVES.len())].to_owned()),
+    }
+}
+
+/// The texts of all files behind an edit, and what the server told then.
+struct Texts {
+    /// The last ones that parse.
+    parsed: Vec<String>,
+    present: Vec<String>,
+    published: BTreeMap<String, Value>,
+}
+
+impl Texts {
+    /// A fresh server, which reads the texts that parse and is then given the present ones. It tells the same.
+    fn told_afresh(&self, folder: &Path, number: usize) -> Client {
+        for (name, text) in FILES.iter().zip(&self.parsed) {
+            std::fs::write(folder.join(name), text).unwrap();
+        }
+        let mut fresh = Client::start(folder, &[]);
+        fresh.initialize();
+        if self.parsed != self.present {
+            FILES.iter().zip(&self.parsed).for_each(|(name, text)| fresh.open(name, text));
+        }
+        for (at, name) in FILES.iter().enumerate().filter(|it| self.parsed[it.0] != self.present[it.0]) {
+            let document = json!({"uri": format!("file://DIR/{name}"), "version": 2});
+            let change = json!({"textDocument": document, "contentChanges": [{"text": self.present[at]}]});
+            fresh.notify("textDocument/didChange", change);
+        }
+        assert_eq!(self.published, fresh.published, "behind edit {}", number + 1);
+        fresh
+    }
+}
+
+/// Whether the present text of a file parses, as the server tells.
+fn is_whole(client: &Client, file: usize) -> bool {
+    let list = client.published.get(&format!("file://DIR/{}", FILES[file]));
+    !list.is_some_and(|it| it.to_string().contains("until it is mended"))
+}
+
+const ASKED: [&str; 6] = ["definition", "hover", "references", "documentSymbol", "completion", "codeAction"];
+
+fn ask_at(client: &mut Client, (method, file, (line, character)): (&str, usize, (u32, u32))) -> Value {
+    let position = json!({"line": line, "character": character});
+    let params = json!({
+        "textDocument": {"uri": format!("file://DIR/{}", FILES[file])}, "position": position,
+        "range": {"start": position, "end": position}, "context": {"includeDeclaration": true, "diagnostics": []},
+    });
+    client.request(&format!("textDocument/{method}"), params)
+}
+
+/// 200 edits, behind about half of which all files parse. Behind each a fresh server, which reads the last texts that parse
+/// and is then given the present ones, tells and answers the same.
 #[test]
 fn random_edits_beside_a_fresh_server() {
     let folder = market();
@@ -62,50 +123,69 @@ fn random_edits_beside_a_fresh_server() {
     for (name, text) in FILES.iter().zip(&texts) {
         client.open(name, text);
     }
+    let mut parsed = texts.clone();
     let mut dice = Dice(11);
-    let mut compared = 0;
-    let mut named = 0;
-    for number in 1..=240 {
-        let at = dice.below(FILES.len());
-        let (range, new) = edit(&texts[at], number, &mut dice);
-        let mut edits = vec![(range, new)];
-        if dice.below(6) == 0 {
-            // A bracket that is taken away again, so that the text doesn't parse for a while.
-            let end = texts[at].len();
-            edits.insert(0, (end..end, "{".to_owned()));
-            edits.insert(1, (end..end + 1, String::new()));
+    let mut points = Vec::new();
+    for number in 1..=200 {
+        let halves: Vec<usize> = (0..FILES.len()).filter(|it| texts[*it] != parsed[*it]).collect();
+        let (is_half, act) = (!halves.is_empty(), dice.below(4));
+        let at = if is_half { halves[dice.below(halves.len())] } else { dice.below(FILES.len()) };
+        let (range, new) = match act {
+            // Back to where it parsed.
+            0 if is_half => (0..texts[at].len(), parsed[at].clone()),
+            0 | 1 if !is_half => edit(&texts[at], number, &mut dice),
+            _ => half_edit(&texts[at], &mut dice),
+        };
+        let shown = Text::new(texts[at].clone()).range_of(range.clone());
+        texts[at].replace_range(range, &new);
+        let document = json!({"uri": format!("file://DIR/{}", FILES[at]), "version": number});
+        let changes = json!([{"range": shown, "text": new}]);
+        client.notify("textDocument/didChange", json!({"textDocument": document, "contentChanges": changes}));
+        if is_whole(&client, at) {
+            parsed[at] = texts[at].clone();
         }
-        for (range, new) in edits {
-            let before = Text::new(texts[at].clone());
-            let shown = before.range_of(range.clone());
-            texts[at].replace_range(range, &new);
-            let changes = json!([{"range": shown, "text": new}]);
-            let document = json!({"uri": format!("file://DIR/{}", FILES[at]), "version": number});
-            client.notify("textDocument/didChange", json!({"textDocument": document, "contentChanges": changes}));
+        let mut asked = Vec::new();
+        for _ in 0..6 {
+            let file = dice.below(FILES.len());
+            let starts: Vec<usize> = texts[file].char_indices().map(|it| it.0).collect();
+            let place = Text::new(texts[file].clone()).place(starts[dice.below(starts.len())]);
+            asked.push((ASKED[dice.below(ASKED.len())], file, place));
         }
-        if number % 20 != 0 {
-            continue;
-        }
-        let fresh_folder = market();
-        for (name, text) in FILES.iter().zip(&texts) {
-            std::fs::write(fresh_folder.path().join(name), text).unwrap();
-        }
-        let mut fresh = Client::start(fresh_folder.path(), &[]);
-        fresh.initialize();
-        assert_eq!(client.published, fresh.published, "after edit {number}");
-        assert!(!fresh.published.is_empty());
-        for _ in 0..60 {
-            let at = dice.below(FILES.len());
-            let text = Text::new(texts[at].clone());
-            let place = text.place(dice.below(texts[at].len()));
-            let made = client.at("textDocument/definition", FILES[at], place);
-            let wanted = fresh.at("textDocument/definition", FILES[at], place);
-            assert_eq!(made, wanted, "after edit {number} at {place:?} of {}", FILES[at]);
-            compared += 1;
-            named += usize::from(!made.is_null());
-        }
+        let answers: Vec<Value> = asked.iter().map(|it| ask_at(&mut client, *it)).collect();
+        let (parsed, present, published) = (parsed.clone(), texts.clone(), client.published.clone());
+        points.push((Texts { parsed, present, published }, asked, answers));
     }
-    assert!(named * 5 > compared, "{named} of {compared} places have a definition");
+    let whole = points.iter().filter(|it| it.0.parsed == it.0.present).count();
+    assert!((60..=140).contains(&whole), "all files parse behind {whole} edits");
+    let answers = || points.iter().flat_map(|it| &it.2);
+    let is_empty = |it: &&Value| it.is_null() || it.as_array().is_some_and(Vec::is_empty);
+    let (all, empty) = (answers().count(), answers().filter(is_empty).count());
+    assert!(empty * 3 < all * 2, "{empty} of {all} answers have nothing");
+    on_threads(&points, |folder, number, (texts, asked, answers)| {
+        let mut fresh = texts.told_afresh(folder, number);
+        for (asked, answer) in asked.iter().zip(answers) {
+            assert_eq!(*answer, ask_at(&mut fresh, *asked), "behind edit {}: {asked:?}", number + 1);
+        }
+    });
+}
+
+/// Does the work for each of these on some threads, each with a package of its own.
+fn on_threads<T: Sync>(all: &[T], work: impl Fn(&Path, usize, &T) + Sync) {
+    let next = std::sync::atomic::AtomicUsize::new(0);
+    let run = || {
+        let folder = market();
+        loop {
+            let number = next.fetch_add(1, std::sync::atomic::Ordering::Relaxed);
+            let Some(it) = all.get(number) else {
+                return;
+            };
+            work(folder.path(), number, it);
+        }
+    };
+    std::thread::scope(|scope| {
+        let threads: Vec<_> = (0..4).map(|_| scope.spawn(run)).collect();
+        threads.into_iter().for_each(|it| it.join().unwrap());
+    });
 }
 
 /// An edit as it is recorded: the file, what stands in a range of the editor, and what comes in its place.
@@ -255,8 +335,8 @@ fn lines_of(published: &BTreeMap<String, Value>) -> Vec<String> {
 }
 
 /// A session of 200 edits is recorded in `lsp/session.jsonl`: a line has an edit, what is asked behind it, the answer,
-/// and which diagnostics came and went. Replayed it gives the same, and so does a fresh server at each point at which
-/// all files parse. Without the file a session is recorded from a seed.
+/// and which diagnostics came and went. Replayed it gives the same, and so does a fresh server at each point, which reads
+/// the last texts that parse. Without the file a session is recorded from a seed.
 #[test]
 fn a_recorded_session() {
     let folder = market();
@@ -275,6 +355,7 @@ fn a_recorded_session() {
         client.open(name, &text);
         texts.push(Text::new(text));
     }
+    let mut parsed = texts.clone();
     let mut points = Vec::new();
     let mut before = lines_of(&client.published);
     for (number, step) in steps.iter_mut().enumerate() {
@@ -292,18 +373,24 @@ fn a_recorded_session() {
             step[name] = made.clone();
         }
         before = now;
-        let is_whole = before.iter().all(|it| !it.contains("until it is mended"));
-        if is_whole {
-            points.push((number, texts.clone(), client.published.clone(), step.clone()));
+        let at = FILES.iter().position(|it| step["file"] == *it).unwrap();
+        if is_whole(&client, at) {
+            parsed[at] = texts[at].clone();
         }
+        let [parsed, present] = [&parsed, &texts].map(|all| all.iter().map(|it| it.as_str().to_owned()).collect());
+        points.push((Texts { parsed, present, published: client.published.clone() }, step.clone()));
     }
     if stored.is_none() || std::env::var_os("UPDATE").is_some() {
         let text: String = steps.iter().map(|it| format!("{it}\n")).collect();
         std::fs::write(&path, text).unwrap();
     }
-    assert!(points.len() >= 100, "all files parse at {} points", points.len());
+    let whole = points.iter().filter(|it| it.0.parsed == it.0.present).count();
+    assert!((100..190).contains(&whole), "all files parse at {whole} points");
     assert!(steps.iter().filter(|it| !it["answer"].is_null()).count() >= 60);
-    compare_afresh(&points);
+    on_threads(&points, |folder, number, (texts, step)| {
+        let mut fresh = texts.told_afresh(folder, number);
+        assert_eq!(step["answer"], ask(&mut fresh, step), "line {}", number + 1);
+    });
 }
 
 /// Asks what a step of a session asks.
@@ -322,32 +409,6 @@ fn take_edit(client: &mut Client, step: &Value, version: usize, texts: &mut [Tex
     let document = json!({"uri": format!("file://DIR/{file}"), "version": version});
     let changes = json!([{"range": step["range"], "text": new}]);
     client.notify("textDocument/didChange", json!({"textDocument": document, "contentChanges": changes}));
-}
-
-/// A step of a session by its number, the texts behind it, what was published, and the step itself.
-type Point = (usize, Vec<Text>, BTreeMap<String, Value>, Value);
-
-/// A fresh server tells and answers the same at each point.
-fn compare_afresh(points: &[Point]) {
-    let next = std::sync::atomic::AtomicUsize::new(0);
-    let compare = || {
-        let folder = market();
-        while let Some((number, texts, published, step)) =
-            points.get(next.fetch_add(1, std::sync::atomic::Ordering::Relaxed))
-        {
-            for (name, text) in FILES.iter().zip(texts) {
-                std::fs::write(folder.path().join(name), text.as_str()).unwrap();
-            }
-            let mut fresh = Client::start(folder.path(), &[]);
-            fresh.initialize();
-            assert_eq!(*published, fresh.published, "line {}", number + 1);
-            assert_eq!(step["answer"], ask(&mut fresh, step), "line {}", number + 1);
-        }
-    };
-    std::thread::scope(|scope| {
-        let threads: Vec<_> = (0..4).map(|_| scope.spawn(compare)).collect();
-        threads.into_iter().for_each(|it| it.join().unwrap());
-    });
 }
 
 /// Files that change together behind the editor's back: their crate is resolved once.
@@ -426,7 +487,9 @@ fn items_that_nothing_names_wait() {
     client.send_all(&[insert("lib.rs", 1, "pub fn added() {}\n"), asked]);
     let received = client.receive_to(|it| it["id"] == 1);
     let is_moved = |it: &Value| it["params"]["diagnostics"][0]["range"]["start"]["line"] == 2;
-    assert!(received.iter().any(is_moved), "{received:?}");
+    if !received.iter().any(is_moved) {
+        client.receive_to(is_moved);
+    }
     let symbols = received.last().unwrap()["result"].as_array().unwrap();
     let added = symbols.iter().find(|it| it["name"] == "added").unwrap();
     let range = json!({"start": {"line": 1, "character": 0}, "end": {"line": 1, "character": 17}});
@@ -443,6 +506,50 @@ fn items_that_nothing_names_wait() {
     let whole = json!({"textDocument": {"uri": uri("a.rs")}, "contentChanges": [{"text": "pub struct S;\n"}]});
     client.exchange(&[message::notification("textDocument/didChange", whole)]);
     assert_eq!(lines_of(&client.published).len(), 2, "{:?}", client.published);
+    assert_eq!(client.end(), 1);
+}
+
+/// What isn't resolved the program isn't asked again behind an edit that leaves what is told as it is.
+#[cfg(unix)]
+#[test]
+fn what_is_known_is_not_asked_again() {
+    let text = "mod a;\nuse crate::nothing;\nuse crate::a::*;\nuse crate::a::Kind::{One, Two};\n\
+        macro_rules! m { () => { pub struct Brought; } }\nm!();\n";
+    let folder = package(&[("src/lib.rs", text), ("src/a.rs", "pub enum Kind { One }\n")]);
+    let (log, script) = (folder.path().join("log"), folder.path().join("program"));
+    let logged = logged(&log.to_string_lossy(), &program().to_string_lossy());
+    write_script(&script, &format!("#!/bin/sh\n{logged}\n"));
+    let mut client = Client::start(folder.path(), &["--program", script.to_str().unwrap()]);
+    client.initialize();
+    client.open("src/lib.rs", text);
+    let start = json!({"line": 0, "character": 0});
+    for (number, (added, errors, asked)) in [
+        ("pub fn added() {}\n", 2, ["set file", "refresh"].as_slice()),
+        ("use crate::a::Kind as Way;\n", 2, &["modules", "resolve", "set file", "refresh"]),
+        ("use crate::none;\n", 3, &["modules", "resolve", "set file", "refresh", "diagnostics", "resolve"]),
+    ]
+    .into_iter()
+    .enumerate()
+    {
+        let before = std::fs::read_to_string(&log).unwrap().len();
+        let document = json!({"uri": "file://DIR/src/lib.rs", "version": number});
+        let change = json!({"range": {"start": start, "end": start}, "text": added});
+        client.send(&message::notification(
+            "textDocument/didChange",
+            json!({"textDocument": document, "contentChanges": [change]}),
+        ));
+        client.receive_to(|it| it["method"] == "textDocument/publishDiagnostics");
+        client.exchange(&[]);
+        let told = lines_of(&client.published);
+        assert_eq!(told.len(), errors, "{told:?}");
+        assert!(told.iter().any(|it| it.starts_with(&format!("src/lib.rs:{}:", number + 2))), "{told:?}");
+        let lines = std::fs::read_to_string(&log).unwrap()[before..].to_owned();
+        let words =
+            lines.lines().map(|it| serde_json::from_str::<Value>(it).unwrap()["do"].as_str().unwrap().to_owned());
+        let mut words: Vec<String> = words.collect();
+        words.dedup();
+        assert_eq!(words, asked, "{added}");
+    }
     assert_eq!(client.end(), 1);
 }
 

@@ -132,6 +132,8 @@ around! { fn h() { struct Twice; «Twice»; } use m::{self as n, «In»}; }
 fn i() { struct Local; each!(«Local»); «Each»; each!({ struct Deep; «Deep» }); }
 fn j() { either! { { type Either = u8; } or => { x } } «Either»; }
 fn k() { use m::In as Other; struct Third; vec![«Other»]; each!(«Third»::«x»); }
+fn l() -> u8 { feature! { #![none] const ALONE: u8 = 1; fn beside() {} } «beside»(); «ALONE» }
+fn n() { drop(0); either!({ use m::In as Given; } else); «Given»; «Each» }
 ";
     let wanted = [
         "one::m::g: struct one::m::g::Inner",
@@ -150,6 +152,10 @@ fn k() { use m::In as Other; struct Third; vec![«Other»]; each!(«Third»::«x
         "one::k: struct one::m::In",
         "one::k: struct one::k::Third",
         "one::k: struct one::k::Third up to x",
+        "one::l: function one::l::beside",
+        "one::l: constant one::l::ALONE",
+        "one::n: struct one::m::In",
+        "one::n: struct one::Each",
     ];
     let text = format!("{MACROS}{calls}");
     let mut asked = Asked::open(&text);

@@ -17,15 +17,19 @@ fn told(space: &mut Workspace) -> Vec<String> {
     all
 }
 
-/// By what it is known that a text changes nothing. Then the program has it, and tells the same if that is known.
-fn known(space: &mut Workspace, path: &Path, text: &str, why: &str) -> Option<SameBy> {
+/// By what it is known that a text changes nothing. Then the program has it, and tells the same if that is known, as does
+/// another session that is asked again.
+fn known([space, other]: &mut [Workspace; 2], path: &Path, text: &str, why: &str) -> Option<SameBy> {
     let key = key_of(path).unwrap();
     let before = told(space);
     let parsed = parse_text(path, &key, text);
-    let made = space.reports_same(&key, &parsed).unwrap();
+    let made = space.reports_same(&key, &parsed, true).unwrap();
     space.update_text(path, text).unwrap();
+    other.update_text(path, text).unwrap();
+    let now = told(space);
+    assert_eq!(now, told(other), "{why}");
     if made.is_some() {
-        assert_eq!(told(space), before, "{why}");
+        assert_eq!(now, before, "{why}");
     }
     made
 }
@@ -42,6 +46,7 @@ const D: &str = "use super::*;\nuse self::c::helper as other;\nuse super::super:
 
 const BY_NAMES: Option<SameBy> = Some(SameBy::Names);
 const BY_LOOK_UPS: Option<SameBy> = Some(SameBy::LookUps);
+const UNJUDGED: Option<SameBy> = Some(SameBy::Unjudged);
 
 /// Each edit of what is behind the texts above: the file, what stands there, what comes in its place (behind the text
 /// where nothing stands there), and by what it is known that the same is told.
@@ -65,9 +70,9 @@ const EDITS: [(&str, &str, &str, Option<SameBy>); 48] = [
     ("b", "", "use std::clone::Clone;\n", BY_LOOK_UPS),
     ("lib", "", "use a::Later;\n", BY_LOOK_UPS),
     ("lib", "", "use crate::a::f as helper;\n", BY_LOOK_UPS),
-    ("lib", "", "use std::collections::HashMap;\n", BY_LOOK_UPS),
-    ("lib", "use std::none::Such;", "", BY_LOOK_UPS),
-    ("lib", "use std::none::Such;", "use std::none::Other;", BY_LOOK_UPS),
+    ("lib", "", "use std::collections::HashMap;\n", UNJUDGED),
+    ("lib", "use std::none::Such;", "", UNJUDGED),
+    ("lib", "use std::none::Such;", "use std::none::Other;", UNJUDGED),
     // Items whose names are.
     ("a", "", "pub struct Shared;\n", BY_LOOK_UPS),
     ("a", "pub struct Deep;", "pub struct Deep; pub struct Shared;", BY_LOOK_UPS),
@@ -106,15 +111,15 @@ fn edits_that_change_nothing_of_what_is_told() {
     let files: Vec<(String, &str)> = texts.iter().map(|(name, text)| (format!("src/{name}.rs"), *text)).collect();
     let files: Vec<(&str, &str)> = files.iter().map(|(name, text)| (&**name, *text)).collect();
     let folder = package(&files);
-    let mut space = open(folder.path());
+    let mut spaces = [open(folder.path()), open(folder.path())];
     for (name, from, to, wanted) in EDITS {
         let text = texts.iter().find(|it| it.0 == name).unwrap().1;
         let edited = if from.is_empty() { format!("{text}{to}") } else { text.replace(from, to) };
         assert_ne!(edited, text, "{to}");
         let path = folder.path().join(format!("src/{name}.rs")).canonicalize().unwrap();
         let why = format!("{name}: {from} {to}");
-        assert_eq!(known(&mut space, &path, &edited, &why), wanted, "{why}");
-        let back = known(&mut space, &path, text, &format!("back from {why}"));
+        assert_eq!(known(&mut spaces, &path, &edited, &why), wanted, "{why}");
+        let back = known(&mut spaces, &path, text, &format!("back from {why}"));
         assert!(back.is_none() || wanted.is_some(), "back from {why}");
     }
 }
@@ -161,7 +166,7 @@ const LINES: [&str; 26] = [
 #[test]
 fn random_edits_of_the_example() {
     let folder = market();
-    let mut space = open(folder.path());
+    let mut spaces = [open(folder.path()), open(folder.path())];
     let mut dice = Dice(45);
     let paths: Vec<_> = FILES.iter().map(|it| folder.path().join(it).canonicalize().unwrap()).collect();
     let texts: Vec<String> = paths.iter().map(|it| std::fs::read_to_string(it).unwrap()).collect();
@@ -181,7 +186,8 @@ fn random_edits_of_the_example() {
         }
         let text = format!("{}{}\n", texts[at], lines[at].join("\n"));
         let why = format!("round {round}: {}: {:?}", FILES[at], lines);
-        by_look_ups += usize::from(known(&mut space, &paths[at], &text, &why) == BY_LOOK_UPS);
+        let made = known(&mut spaces, &paths[at], &text, &why);
+        by_look_ups += usize::from(made == BY_LOOK_UPS || made == UNJUDGED);
     }
     assert!(by_look_ups > 60, "{by_look_ups}");
 }

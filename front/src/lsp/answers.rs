@@ -451,18 +451,26 @@ impl<W: Write> Server<W> {
         Ok(())
     }
 
+    /// The program isn't asked, so what was typed need not be handed in.
     pub(super) fn symbols(&mut self, params: &Value) -> Result<Value, Failure> {
         let key = asked_file(params)?;
-        let waiting = self.documents.get(&key).and_then(|it| Some((&it.text, it.waits.as_ref()?)));
-        let made: Vec<Value> = match waiting {
-            Some((now, Waiting { text, parsed, .. })) => {
+        if let Some(it) = self.documents.get_mut(&key).filter(|it| it.is_dirty && it.typed.is_none()) {
+            it.typed = Some(parse_text(&path_of_key(&key), &key, it.text.as_str()));
+        }
+        let read = self.documents.get(&key).and_then(|it| {
+            let typed = it.typed.as_ref().filter(|it| it.error.is_none()).map(|parsed| (&it.text, &it.text, parsed));
+            typed.or(it.waits.as_ref().map(|Waiting { text, parsed, .. }| (&it.text, text, parsed)))
+        });
+        let made: Vec<Value> = match read {
+            Some((now, text, parsed)) => {
                 let all = symbols_of(&parsed.unit.items, text);
                 all.iter().map(|it| symbol(it, &mut |span| text.range_in(now, span))).collect()
             }
             None => {
                 let text = self.unit_text(&key);
-                let parsed = self.space.as_ref().and_then(|it| it.parsed(&key)).cloned();
-                // One that is no module of the package, or not yet.
+                let parsed =
+                    self.space.as_ref().and_then(|it| it.parsed(&key)).filter(|it| it.error.is_none()).cloned();
+                // One that is no module of the package, not yet, or one of those that lead back to it.
                 let parsed = parsed.unwrap_or_else(|| parse_text(&path_of_key(&key), &key, text.as_str()).into());
                 let all = symbols_of(&parsed.unit.items, &text);
                 all.iter().map(|it| symbol(it, &mut |span| self.range(&key, span))).collect()

@@ -90,18 +90,19 @@ impl<W: Write> Server<W> {
             let document = self.documents.get(&key);
             let is_present = document.map_or(true, |it| Arc::ptr_eq(&it.text, &text));
             // Where the items stand that are told of has to be known.
-            let may_wait = may_wait && document.is_some_and(|it| it.good.is_some());
+            let is_known = document.is_some_and(|it| it.good.is_some());
             let is_mended = is_present && self.errors.remove(&key).is_some();
             self.needs_report |= is_mended || self.touched.contains(&key);
             if space.take_unchanged(&key, &parsed) {
                 readings.push((key, text, Reading::Taken));
                 continue;
             }
-            let same_by = match may_wait {
-                true => self.with_space(|it| it.reports_same(&key, &parsed))?.flatten(),
+            let same_by = match is_known {
+                true => self.with_space(|it| it.reports_same(&key, &parsed, may_wait))?.flatten(),
                 false => None,
             };
-            let reading = match same_by.filter(|it| self.may_wait_beside_others(&key, *it, &readings)) {
+            let may_wait = |it: &SameBy| may_wait && self.may_wait_beside_others(&key, *it, &readings);
+            let reading = match same_by.filter(may_wait) {
                 Some(same_by) => Reading::Waits(Waiting { text: text.clone(), parsed, same_by }),
                 None => {
                     work.push((key.clone(), parsed));
@@ -164,10 +165,16 @@ impl<W: Write> Server<W> {
 
     /// Hands in what was typed, and publishes what that changes. What changes nothing of it may wait.
     pub(super) fn flush(&mut self, may_wait: bool) -> Result<()> {
+        self.read_typed(may_wait)?;
+        self.publish_report()
+    }
+
+    /// Hands in what was typed, but for what may wait.
+    pub(super) fn read_typed(&mut self, may_wait: bool) -> Result<()> {
         let mut texts: Vec<Typed> = Vec::new();
         for (key, it) in &mut self.documents {
             let parse = || parse_text(&path_of_key(key), key, it.text.as_str());
-            let typed = it.is_dirty.then(parse);
+            let typed = it.is_dirty.then(|| it.typed.take().unwrap_or_else(parse));
             let is_past = typed.as_ref().is_some_and(|it| it.error.is_none());
             let waiting = if may_wait { None } else { it.waits.take() };
             texts.extend(waiting.filter(|_| !is_past).map(|it| (key.clone(), it.text, it.parsed)));
@@ -185,6 +192,12 @@ impl<W: Write> Server<W> {
                 Reading::Broken => {}
             }
         }
+        Ok(())
+    }
+
+    /// Publishes what is told, where a report is due.
+    pub(super) fn publish_report(&mut self) -> Result<()> {
+        self.has_answered = false;
         if !std::mem::take(&mut self.needs_report) || self.phase != Phase::Serving {
             return Ok(());
         }

@@ -74,12 +74,12 @@ fn blocks_in_fields(tokens: &[Token], made: &mut Vec<Arc<Block>>) {
 /// Those in what a macro is called with, where that reads as statements, or as expressions between commas. What it
 /// becomes isn't known, but such a block mostly stays where it is.
 fn blocks_in_call(input: &[Token]) -> Vec<Arc<Block>> {
-    blocks_if_rust(input).unwrap_or_default()
+    blocks_if_rust(block(input, Span::default()), input).unwrap_or_default()
 }
 
-/// The same, or none where there are some and it isn't Rust.
-fn blocks_if_rust(input: &[Token]) -> Option<Vec<Arc<Block>>> {
-    let made = block(input, Span::default()).outermost();
+/// The same of what was read of it, or none where there are some and it isn't Rust.
+fn blocks_if_rust(read: Block, input: &[Token]) -> Option<Vec<Arc<Block>>> {
+    let made = read.outermost();
     (made.is_empty() || reads_as_rust(input)).then_some(made)
 }
 
@@ -252,8 +252,10 @@ impl Cursor<'_> {
             return None;
         }
         let mut call = Call::new(path, input, true);
-        let blocks = blocks_if_rust(input);
-        call.may_give_back_items = blocks.is_none();
+        let read = block(input, Span::default());
+        let has_items = read.items.iter().any(|it| !matches!(it.kind, ItemKind::Call(_)));
+        let blocks = blocks_if_rust(read, input);
+        call.may_give_back_items = has_items || blocks.is_none();
         Some(Item {
             attributes: Vec::new(),
             visibility: Visibility::default(),
@@ -348,7 +350,7 @@ mod tests {
         check("fn f() { unsafe { g() } async { h() }; async move {}; const { 1 }; static || {}; }", "f");
         check("fn f() { let union = 1; union + 1; union.x; auto = 2; let g: fn(u8) = h; }", "f");
         check("fn f() { x as *const u8; &raw const y; *const_it; const || 1; }", "f");
-        check("fn f() { m! { struct S; } g!{}.h(); m!({ b }) }", "f");
+        check("fn f() { m! { S } g!{}.h(); m!({ b }) }", "f");
         check("#[m({ struct A; })] fn f() { #[m({ struct A; })] g(); #![m({ struct B; })] h() }", "f");
         check("struct S { struct_: u8, pub fn_: u8 } enum E { A { pub union: u8 }, B = { 1 } }", "S E");
         check("fn f() { let macro_rules = 1; macro_rules!(x); crate::a(); type_of(); }", "f");
@@ -385,8 +387,13 @@ mod tests {
         check("fn f() { n!(m!({ use a::b; b })); a::m! { let x = { struct S; 1 }; x } }", "f{use}{S}");
         check("fn f() { struct S; m!({ struct T; }); }", "f{S m!{T}}");
         check("fn f() { m!({ struct A; }); { struct B; } n!({ struct C; }) }", "f{A}{B}{C}");
-        // The items themselves are where the macro puts them.
-        check("fn f() { m! { struct S; fn g() { use a::b; } impl S { fn h() { struct T; } } } }", "f{use}{T}");
+        // The items themselves are where the macro puts them, as in the body.
+        check("fn f() { m! { struct S; fn g() { use a::b; } impl S { fn h() { struct T; } } } }", "f{m!{use}{T}}");
+        check(
+            "fn f() { thread_local! { static X: u8 = 1; } m!(use a::b;); n!({ struct S; }) }",
+            "f{thread_local! m!; {S}}",
+        );
+        check("fn f() { let x = m! { struct S; }; g(n!(fn h() {})); o!(p! { struct S; }) }", "f");
         check("thread_local! { static X: u8 = { use a::b; b }; }", "thread_local!{use}");
         check("m! { fn f() { struct S; } mod n { fn g() { struct T; } } }", "m!{S}");
         // What isn't Rust.

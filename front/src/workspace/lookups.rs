@@ -12,7 +12,7 @@ use serde_json::Value;
 
 use super::recorded::caller_of;
 use super::unnamed::{is_plain_name, is_plain_visibility, plain_names, Changes, MOST_NAMES};
-use super::{Key, ModulePlace, Workspace};
+use super::{Key, ModulePlace, SameBy, Workspace};
 use crate::cfg::Options;
 use crate::question::{names_of, Context};
 use crate::unit::{
@@ -212,13 +212,20 @@ fn with_globs(
 }
 
 impl Workspace {
-    /// Whether these changes of a file of one crate leave what is told as it is. `now` is what the file is then.
-    pub(super) fn looks_up_same(&mut self, krate: u32, key: &Key, changes: &Changes, now: &Built) -> Result<bool> {
+    /// Whether these changes of a file of one crate leave what is told as it is, and by what that is known. `now` is what the
+    /// file is then.
+    pub(super) fn looks_up_same(
+        &mut self,
+        krate: u32,
+        key: &Key,
+        changes: &Changes,
+        now: &Built,
+    ) -> Result<Option<SameBy>> {
         let Some(module) = self.module_of(krate, key).map(steps_of) else {
-            return Ok(false);
+            return Ok(None);
         };
         let Some(Bindings { names, imports }) = Bindings::read(krate, &module, changes, now) else {
-            return Ok(false);
+            return Ok(None);
         };
         let mut questions = Questions::default();
         // Another file may have a module of this name.
@@ -232,23 +239,25 @@ impl Workspace {
             .map(|it| it.map(|(place, path)| questions.add(self.question_in(krate, place, path, Context::Import))))
             .collect();
         let (Some(look_ups), Some(globs)) = (found, globs) else {
-            return Ok(false);
+            return Ok(None);
         };
         if questions.lines.len() > MOST_QUESTIONS {
-            return Ok(false);
+            return Ok(None);
         }
         let replies = self.ask_all(&questions.lines)?;
         let places = replies[modules]["ok"].as_array().into_iter().flatten();
         let is_there = places.map(Value::to_string).eq([place_json(krate, &module)]);
         if !is_there || replies.iter().any(|it| it.get("error").is_some()) {
-            return Ok(false);
+            return Ok(None);
         }
         let leads = |number: usize| self.place_of_module(&replies[number]["ok"]["types"]["def"]);
         // What leads into a crate for which a stub stands isn't judged.
         let is_unjudged = |number: usize| self.is_of_stub(&replies[number]["ok"]["types"]["def"]);
-        let mut imports = imports.iter().zip(asked);
-        if !imports.all(|(it, [whole, first])| is_bound(&replies[whole], krate, it.is_self) || is_unjudged(first)) {
-            return Ok(false);
+        let unbound =
+            imports.iter().zip(asked).filter(|(it, [whole, _])| !is_bound(&replies[*whole], krate, it.is_self));
+        let unbound: Vec<usize> = unbound.map(|(_, [_, first])| first).collect();
+        if !unbound.iter().all(|it| is_unjudged(*it)) {
+            return Ok(None);
         }
         let globs: Vec<(ModulePlace, ModulePlace)> =
             globs.into_iter().filter_map(|(number, to)| Some((leads(number)?, to))).collect();
@@ -260,7 +269,8 @@ impl Workspace {
             };
             module.is_some_and(|it| names.get(&it).is_some_and(|names| names.contains(name)))
         };
-        Ok(!look_ups.iter().any(is_met))
+        let same_by = if unbound.is_empty() { SameBy::LookUps } else { SameBy::Unjudged };
+        Ok(Some(same_by).filter(|_| !look_ups.iter().any(is_met)))
     }
 
     /// The files of the crates from this one on, and what their calls expand to.

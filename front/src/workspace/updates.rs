@@ -24,6 +24,8 @@ pub enum SameBy {
     Names,
     /// Nothing that the program has looks them up.
     LookUps,
+    /// The same, but an import that comes or goes leads into a crate for which a stub stands, so that it isn't judged.
+    Unjudged,
 }
 
 impl Workspace {
@@ -92,7 +94,7 @@ impl Workspace {
         if crates.is_empty() {
             return Ok(crates);
         }
-        self.settle(&crates)
+        self.settle(&crates, false)
     }
 
     fn is_root(&self, key: &Key) -> bool {
@@ -148,20 +150,25 @@ impl Workspace {
 
     /// Takes what [`parse_text`] made in place of what these files hold.
     pub fn update_parsed(&mut self, files: Vec<(Key, Parsed)>) -> Result<Vec<u32>> {
+        let is_circular = !self.circular.is_empty();
         let mut crates = self.restore_circular();
+        let mut same = Vec::new();
         for (key, parsed) in files {
             let is_same = self.parsed.get(&key).is_some_and(|it| it.text == parsed.text);
             if !is_same && !self.take_same(&key, &parsed) {
+                same.push(self.same.get(&key).filter(|it| it.0 == parsed.text).map(|it| it.1));
                 self.parsed.insert(key.clone(), Arc::new(parsed));
                 crates.extend(self.looking_for(&key));
             }
         }
         let mut crates: Vec<u32> = crates.into_iter().collect();
         crates.sort_unstable();
-        match crates.is_empty() {
-            true => Ok(crates),
-            false => self.settle(&crates),
+        if crates.is_empty() {
+            return Ok(crates);
         }
+        // What is known by what the program has is known of one text alone.
+        let is_by_names = same.iter().all(|it| *it == Some(SameBy::Names));
+        self.settle(&crates, !is_circular && (is_by_names || same == [Some(SameBy::LookUps)]))
     }
 
     /// Takes what [`parse_text`] made in place of what a file holds, where only places are others.
@@ -171,8 +178,19 @@ impl Workspace {
     }
 
     /// Whether a report would be the same, but for places, with what [`parse_text`] made in place of what a file holds, and
-    /// by what that is known.
-    pub fn reports_same(&mut self, key: &Key, parsed: &Parsed) -> Result<Option<SameBy>> {
+    /// by what that is known. With `may_ask` the program is asked for it.
+    pub fn reports_same(&mut self, key: &Key, parsed: &Parsed, may_ask: bool) -> Result<Option<SameBy>> {
+        if let Some((_, by)) = self.same.get(key).filter(|it| it.0 == parsed.text) {
+            return Ok(Some(*by));
+        }
+        let made = self.find_same(key, parsed, may_ask)?;
+        if let Some(it) = made {
+            self.same.insert(key.clone(), (parsed.text, it));
+        }
+        Ok(made)
+    }
+
+    fn find_same(&mut self, key: &Key, parsed: &Parsed, may_ask: bool) -> Result<Option<SameBy>> {
         let of = self.crates_of(key);
         let (Some(sent), &[krate]) = (self.sent.get(key), &of[..]) else {
             return Ok(None);
@@ -207,9 +225,10 @@ impl Workspace {
         if are_unnamed {
             return Ok(Some(SameBy::Names));
         }
-        let is_of_std = (krate as usize) < self.crates.of_std;
-        let is_same = !is_of_std && self.looks_up_same(krate, key, &changes, &now)?;
-        Ok(is_same.then_some(SameBy::LookUps))
+        match may_ask && krate as usize >= self.crates.of_std {
+            true => self.looks_up_same(krate, key, &changes, &now),
+            false => Ok(None),
+        }
     }
 
     /// The crates in which the file is a module, or in which a module looked for it.

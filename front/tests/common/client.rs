@@ -100,12 +100,13 @@ impl Client {
 
     /// Sends these at once, and answers what comes until the server has done all of it.
     pub fn exchange(&mut self, sent: &[Value]) -> Vec<Value> {
-        let id = json!(format!("last-{}", self.next));
+        // What is told may come behind the answer of one request, and comes before that of the next.
+        let ids = ["first", "last"].map(|it| json!(format!("{it}-{}", self.next)));
         self.next += 1;
-        let last = json!({"jsonrpc": "2.0", "id": id, "method": "textDocument/hover", "params": {}});
-        self.send_all(&[sent, &[last]].concat());
-        let mut made = self.receive_to(|it| it["id"] == id);
-        made.pop();
+        let last = |id: &Value| json!({"jsonrpc": "2.0", "id": id, "method": "textDocument/hover", "params": {}});
+        self.send_all(&[sent, &[last(&ids[0]), last(&ids[1])]].concat());
+        let mut made = self.receive_to(|it| it["id"] == ids[1]);
+        made.retain(|it| !ids.contains(&it["id"]));
         self.steady_all(&made)
     }
 

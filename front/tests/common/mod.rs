@@ -77,6 +77,13 @@ pub fn logged(log: &str, program: &str) -> String {
     format!("while IFS= read -r line; do printf '%s\\n' \"$line\" >> {log}; printf '%s\\n' \"$line\"; done | {program}")
 }
 
+/// Where commands are looked for, the server's folder first, so that `cargo nogsimat` is this one.
+pub fn server_on_path() -> std::ffi::OsString {
+    let server = Path::new(env!("CARGO_BIN_EXE_cargo-nogsimat"));
+    let path = std::env::var_os("PATH").unwrap_or_default();
+    std::env::join_paths(server.parent().map(Path::to_owned).into_iter().chain(std::env::split_paths(&path))).unwrap()
+}
+
 /// Numbers that look random, the same each time.
 pub struct Dice(pub u64);
 
