@@ -18,21 +18,22 @@ use Rattle.hir_collector_rules.specs.HirTables.Tables.{KeepsTables, TablesValue,
 use Rattle.hir_collector_rules.proofs.HirTables.Growth.{KeepsTables-trans}
 use Rattle.hir_collector_rules.specs.Calls.{call_key, call_tree, error_of, expansion_of_call}
 use Rattle.hir_collector_rules.specs.Keys.{IsMeant, environment, input_at, node_tree, source_in}
+use Rattle.hir_collector_rules.specs.Moves.{OnceGrown}
 use Rattle.hir_collector_rules.specs.NumberedOut.{IsNumberedOut}
 use Rattle.hir_collector_rules.specs.Workspace.{Workspace}
 use Rattle.hir_collector_rules.proofs.Numbers.{full_out}
-use Rattle.hir_assoc_items.specs.AssocItems.{ContainerValue, HasNoNumber, call_loc, call_out, crate_of, expansion_by, expansion_out, macro_text}
+use Rattle.hir_assoc_items.specs.AssocItems.{ContainerValue, HasNoNumber, call_loc, call_out, crate_of, expansion_by, expansion_out, first_expansion, first_missing, inner_paths, macro_text}
 use Rattle.hir_assoc_items.specs.Steps.{SeesCall, refusal_of_number}
 use Rattle.hir_assoc_items.specs.declared.error.AssocItemsError.{AssocItemsError}
 use Rattle.hir_assoc_items.specs.declared.error.AssocItemsError.TheVariants as errors
-use Rattle.hir_assoc_items.proofs.Growth.{expansion_stays, source_in_stays}
+use Rattle.hir_assoc_items.proofs.Growth.{AreKnown, expansion_stays, source_in_stays}
 
--- it is put together out of what was looked up
+-- the key is put together out of what was looked up, as long as no path is resolved
 pub key_of_call : (tables : TablesValue) (w : Workspace) (c : ContainerValue) (node : AstId) (makro : MacroId) (krate : Crate) (text input : Option (List ℕ))
     (key : ExpansionValue)
     → key ≡ expansion_of_call krate styles.Bang makro text input → krate ≡ crate_of c → text ≡ macro_text (environment tables w) c.maps makro → input
     ≡ input_at tables w krate node
-    → key ≡ expansion_by (environment tables w) c node makro
+    → key ≡ first_expansion (environment tables w) c node makro
 key_of_call tables w c node makro krate text input key is own of_macro of_node =
     is ∙ ap (λ (t : Option (List ℕ)). expansion_of_call krate styles.Bang makro t input) of_macro
     ∙ ap (λ (i : Option (List ℕ)). expansion_of_call krate styles.Bang makro (macro_text (environment tables w) c.maps makro) i) of_node
@@ -47,16 +48,17 @@ source_of_call tables id loc key call entry =
     (λ (o : Option ExpansionValue). option_map expansion o) entry
 
 module _ (first : TablesValue) (w : Workspace) (c : ContainerValue) (node : AstId) (makro : MacroId) (meant : IsSome (source_of first (node_tree node))) (of_macro : IsMeant first makro)
-    (key : ExpansionValue) (is : key ≡ expansion_by (environment first w) c node makro) where
+    (known : AreKnown first c (inner_paths (environment first w) c node makro)) (key : ExpansionValue) (is : key ≡ expansion_by (environment first w) c node makro) where
   key_stays : (grown : TablesValue) → KeepsTables first grown → key ≡ expansion_by (environment grown w) c node makro
-  key_stays grown kept = is ∙ sym (expansion_stays first grown kept w c node makro meant of_macro)
+  key_stays grown kept = is ∙ sym (expansion_stays first grown kept w c node makro meant of_macro known)
 
   pub sees_call : (second tables : TablesValue) (entry : EntryId) (id : MacroCallId) (error : Option (List ℕ)) (source : SourceTreeValue)
       → KeepsTables first second → KeepsTables second tables
       → entry_at second entry ≡ Some key → call_at tables id ≡ Some (call_loc node entry) → error ≡ error_of (w.entry key) → source
       ≡ source_in tables w (call_key (crate_of c) id)
+      → OnceGrown tables w (λ env. first_missing c (inner_paths env c node makro) ≡ None)
       → SeesCall tables w c node makro id error source
-  sees_call second tables entry id error source before after at call told found =
+  sees_call second tables entry id error source before after at call told found all =
       let kept : KeepsTables first tables = KeepsTables-trans first second tables before after in
       let there : IsSome (source_of tables (call_tree id)) =
       subst (λ (o : Option SourcePlaceValue). IsSome o) (sym (source_of_call tables id (call_loc node entry) key call (after.entries entry.0 key at))) refl in
@@ -68,19 +70,23 @@ module _ (first : TablesValue) (w : Workspace) (c : ContainerValue) (node : AstI
         };
         told = λ grown k. told ∙ ap (λ (e : ExpansionValue). error_of (w.entry e)) (key_stays grown (KeepsTables-trans first tables grown kept k));
         brought = λ grown k. found ∙ sym (source_in_stays tables grown k w (call_key (crate_of c) id) there);
+        first = all;
         meant = there;
       }
 
   -- the expansion gets no number
-  pub no_expansion : (tables : TablesValue) → KeepsTables first tables → IsFull tables.entries key → HasNoNumber (environment tables w) c node makro
-  no_expansion tables kept full =
-      expansion_out (subst (λ (e : ExpansionValue). IsNumberedOut tables.entries e) (key_stays tables kept) (full_out tables.entries key full))
+  pub no_expansion : (tables : TablesValue) → KeepsTables first tables → first_missing c (inner_paths (environment tables w) c node makro) ≡ None
+      → IsFull tables.entries key
+      → HasNoNumber (environment tables w) c node makro
+  no_expansion tables kept all full =
+      expansion_out all (subst (λ (e : ExpansionValue). IsNumberedOut tables.entries e) (key_stays tables kept) (full_out tables.entries key full))
 
   -- it has one, and the call gets none
-  pub no_call : (tables : TablesValue) (entry : EntryId) → KeepsTables first tables → entry_at tables entry ≡ Some key
+  pub no_call : (tables : TablesValue) (entry : EntryId) → KeepsTables first tables → first_missing c (inner_paths (environment tables w) c node makro) ≡ None
+      → entry_at tables entry ≡ Some key
       → IsFull tables.calls (call_loc node entry)
       → HasNoNumber (environment tables w) c node makro
-  no_call tables entry kept at full = call_out entry (at ∙ ap Some (key_stays tables kept)) (full_out tables.calls (call_loc node entry) full)
+  no_call tables entry kept all at full = call_out all entry (at ∙ ap Some (key_stays tables kept)) (full_out tables.calls (call_loc node entry) full)
 
 -- ---- refusals of tables
 

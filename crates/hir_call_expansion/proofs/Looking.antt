@@ -1,5 +1,5 @@
 -- What is asked for of a call that reaches a macro.
-use Rattle.std.proofs.Common.{◌≡◌, ◌∙◌, ℕ, ◌++◌, List, [], ◌∷◌, Option, Some, refl, sym, ap, subst, option_and_then, option_map}
+use Rattle.std.proofs.Common.{◌≡◌, ◌∙◌, ℕ, ◌++◌, List, [], ◌∷◌, Option, None, Some, refl, sym, ap, subst, option_and_then, option_map}
 use Rattle.std.specs.Prelude.{IsSome}
 use Rattle.hir_collector_state.specs.HirIds.declared.ast_id.AstId.{AstId}
 use Rattle.hir_collector_state.specs.HirBase.declared.macro_kind.CallStyle.{CallStyle}
@@ -16,7 +16,7 @@ use Rattle.hir_collector_state.specs.HirTables.Tables.{KeepsTables, TablesValue,
 use Rattle.hir_collector_state.proofs.HirTables.Growth.{KeepsTables-trans}
 use Rattle.hir_collector_state.specs.HirDefMapRules.Diagnostics.{call_node}
 use Rattle.hir_collector_state.specs.HirDefMapRules.Overlay.{Maps}
-use Rattle.hir_collector_state.specs.HirDefMapRules.State.{Map}
+use Rattle.hir_collector_state.specs.HirDefMapRules.State.{Local, Map}
 use Rattle.hir_collector_state.specs.HirCollectorRules.declared.source_database.Key.{Key}
 use Rattle.hir_collector_state.specs.HirCollectorRules.declared.macro_directive.MacroDirective.{MacroDirective}
 use Rattle.hir_collector_state.specs.HirCollectorRules.declared.macro_directive.MacroDirectiveKind.{MacroDirectiveKind}
@@ -24,14 +24,14 @@ use Rattle.hir_collector_state.specs.HirCollectorRules.declared.source_database.
 use Rattle.hir_collector_state.specs.HirCollectorRules.CallMoves.{SeesCall}
 use Rattle.hir_collector_state.specs.HirCollectorRules.declared.macro_directive.MacroDirectiveKind.TheVariants.{Attr, Derive, FnLike}
 use Rattle.hir_collector_state.specs.HirCollectorRules.Calls.{AreCallsPlaced, Expanding, IsMeantCall, IsNumberedCall}
-use Rattle.hir_collector_state.specs.HirCollectorRules.Calls.{IsTextOf, call_key, call_kind, call_loc, call_style}
+use Rattle.hir_collector_state.specs.HirCollectorRules.Calls.{IsTextOf, asked_first, call_key, call_kind, call_loc, call_style}
 use Rattle.hir_collector_state.specs.HirCollectorRules.Calls.{call_tree, called_text, expansion_of_call, expansion_readings, kind_by, text_readings}
 use Rattle.hir_collector_state.specs.HirCollectorRules.Keys.{Environment, IsMeant, entry_under, environment, input_at}
 use Rattle.hir_collector_state.specs.HirCollectorRules.Keys.{node_tree, of_entry, of_input, of_text, of_tree, source_in}
 use Rattle.hir_collector_state.specs.HirCollectorRules.Keys.{text_at}
 use Rattle.hir_collector_state.specs.HirCollectorRules.ModuleFiles.{Reading}
 use Rattle.hir_collector_state.specs.HirCollectorRules.Moves.{OnceGrown}
-use Rattle.hir_collector_state.specs.HirCollectorRules.NumberedOut.{IsCallNumberedOut, LacksExpansion, call_out, expansion_by, expansion_out}
+use Rattle.hir_collector_state.specs.HirCollectorRules.NumberedOut.{IsCallNumberedOut, IsNumberedOut, LacksExpansion, at_once, call_out, expansion_by, expansion_out, no_entry}
 use Rattle.hir_collector_state.specs.HirCollectorRules.State.{Core, with_asked}
 use Rattle.hir_collector_state.specs.HirCollectorRules.Steps.{Sees, keys_read, with_keys}
 use Rattle.hir_collector_state.specs.HirCollectorRules.Workspace.{Workspace, seen_of}
@@ -55,19 +55,23 @@ pub Sees-append : (env : Environment) (finished : Maps) (xs ys : List Reading) �
 Sees-append env finished [] ys p q = q
 Sees-append env finished (x ∷ xs) ys p q = (p.0, Sees-append env finished xs ys p.1 q)
 
--- the text of a macro was asked for, and then the input, the expansion and its items
-pub asked_all : (c text input entry tree : Core) (own : Crate) (d : MacroDirective) (makro : MacroId) (x : Expanding)
-    → text ≡ record c { asked = with_keys c.asked (keys_read (text_readings makro x.text)) } → input ≡ with_asked text (keys.Input own d.ast_id) → entry
-    ≡ with_asked input (keys.Expansion x.entry)
-    → tree ≡ with_asked entry (keys.Tree (call_key own x.id))
-    → tree ≡ record c { asked = with_keys c.asked (keys_read (text_readings makro x.text ++ expansion_readings own d x)) }
-asked_all c text input entry tree own d makro x first second third fourth =
-    let behind : List Key = keys_read (expansion_readings own d x) in
-    fourth
-    ∙ ap (λ (e : Core). with_asked e (keys.Tree (call_key own x.id))) (third ∙ ap (λ (e : Core). with_asked e (keys.Expansion x.entry))
-    (second ∙ ap (λ (e : Core). with_asked e (keys.Input own d.ast_id)) first))
-    ∙ ap (λ (ks : List Key). record c { asked = ks }) (sym (with_keys-append c.asked (keys_read (text_readings makro x.text)) behind))
-    ∙ ap (λ (ks : List Key). record c { asked = with_keys c.asked ks }) (sym (keys_read-append (text_readings makro x.text) (expansion_readings own d x)))
+-- the text of a macro that asks for no paths first was asked for, and then the input, the expansion and its items
+module _ (y : Expanding) where
+  abbrev alone : Expanding
+  alone = record y { grown = None }
+
+  pub asked_all : (c text input entry tree : Core) (own : Crate) (d : MacroDirective) (makro : MacroId)
+      → text ≡ record c { asked = with_keys c.asked (keys_read (text_readings makro alone.text)) } → input ≡ with_asked text (keys.Input own d.ast_id) → entry
+      ≡ with_asked input (keys.Expansion alone.entry)
+      → tree ≡ with_asked entry (keys.Tree (call_key own alone.id))
+      → tree ≡ record c { asked = with_keys c.asked (keys_read (text_readings makro alone.text ++ expansion_readings own d alone)) }
+  asked_all c text input entry tree own d makro first second third fourth =
+      let behind : List Key = keys_read (expansion_readings own d alone) in
+      fourth
+      ∙ ap (λ (e : Core). with_asked e (keys.Tree (call_key own alone.id))) (third ∙ ap (λ (e : Core). with_asked e (keys.Expansion alone.entry))
+      (second ∙ ap (λ (e : Core). with_asked e (keys.Input own d.ast_id)) first))
+      ∙ ap (λ (ks : List Key). record c { asked = ks }) (sym (with_keys-append c.asked (keys_read (text_readings makro alone.text)) behind))
+      ∙ ap (λ (ks : List Key). record c { asked = with_keys c.asked ks }) (sym (keys_read-append (text_readings makro alone.text) (expansion_readings own d alone)))
 
 -- ---- numbers
 
@@ -79,8 +83,11 @@ source_of_call tables id loc key call entry =
     ap (λ (o : Option MacroCallLoc). option_map expansion (option_and_then (λ (l : MacroCallLoc). entry_at tables l.entry) o)) call ∙ ap
     (λ (o : Option ExpansionValue). option_map expansion o) entry
 
-module _ (first second tables : TablesValue) (w : Workspace) (finished : Maps) (c new : Core) (d : MacroDirective) (makro : MacroId) (x : Expanding) (source : SourceTreeValue)
+module _ (first second tables : TablesValue) (w : Workspace) (finished : Maps) (c new : Core) (d : MacroDirective) (makro : MacroId) (y : Expanding) (source : SourceTreeValue)
     (before : KeepsTables first second) (after : KeepsTables second tables) (meant : IsMeantCall first d) (of_macro : IsMeant first makro) where
+  abbrev x : Expanding
+  x = alone y
+
   abbrev own : Crate
   own = c.map.id.krate
 
@@ -91,7 +98,7 @@ module _ (first second tables : TablesValue) (w : Workspace) (finished : Maps) (
   kept = KeepsTables-trans first second tables before after
 
   numbered : entry_at second x.entry ≡ Some key → call_at tables x.id ≡ Some (call_loc d x.entry) → IsNumberedCall tables own d makro x
-  numbered entry call = record { meant = macro_kept first tables kept makro of_macro; entry = after.entries x.entry.0 key entry; call = call }
+  numbered entry call = record { meant = macro_kept first tables kept makro of_macro; entry = after.entries x.entry.0 key entry; call = call; first = tt }
 
   sees_text : (makro : MacroId) → IsMeant first makro → x.text ≡ called_text finished c.map makro (text_at first w makro) → (grown : TablesValue)
       → KeepsTables tables grown → (maps : Maps)
@@ -108,16 +115,17 @@ module _ (first second tables : TablesValue) (w : Workspace) (finished : Maps) (
   text_of_it (macros.MacroRulesId id) is = tt
   text_of_it (macros.ProcMacroId id) is = is
 
-  pub sees_call : entry_at second x.entry ≡ Some key → call_at tables x.id ≡ Some (call_loc d x.entry) → x.text ≡ called_text finished c.map makro
+  pub sees_call : asked_first makro x.there ≡ [] → entry_at second x.entry ≡ Some key → call_at tables x.id ≡ Some (call_loc d x.entry) → x.text ≡ called_text finished c.map makro
       (text_at first w makro) → x.input ≡ input_at first w own d.ast_id
       → x.there ≡ w.entry key → x.tree ≡ seen_of source → source ≡ source_in tables w (call_key own x.id)
       → new ≡ record c { asked = with_keys c.asked (keys_read (text_readings makro x.text ++ expansion_readings own d x)) } → SeesCall tables w finished d makro
       c new x source
-  sees_call entry call text input there tree found asked =
+  sees_call nothing entry call text input there tree found asked =
       let at_last : IsNumberedCall tables own d makro x = numbered entry call in
       let place : source_of tables (call_tree x.id) ≡ Some (expansion key) = source_of_call tables x.id (call_loc d x.entry) key call at_last.entry in
       record {
         text = text_of_it makro text;
+        first = nothing;
         numbered = λ grown k. call_kept tables grown k own d makro x at_last;
         sees = λ grown k maps.
             Sees-append (environment grown w) maps (text_readings makro x.text) (expansion_readings own d x) (sees_text makro of_macro text grown k maps) (
@@ -139,7 +147,7 @@ module _ (first second tables : TablesValue) (w : Workspace) (finished : Maps) (
 
 -- ---- what can't get a number
 
-module _ (first tables : TablesValue) (w : Workspace) (finished : Maps) (m : Map) (d : MacroDirective) (makro : MacroId) (kept : KeepsTables first tables)
+module _ (first tables : TablesValue) (w : Workspace) (finished : Maps) (local : Local) (m : Map) (d : MacroDirective) (makro : MacroId) (kept : KeepsTables first tables)
     (meant : IsMeantCall first d) (of_macro : IsMeant first makro) where
   -- what its expansion depends on as the tables were at first
   abbrev key_at_first : ExpansionValue
@@ -169,27 +177,37 @@ module _ (first tables : TablesValue) (w : Workspace) (finished : Maps) (m : Map
       ∙ ap (λ (t : Option (List ℕ)). expansion_of_call m.id.krate (call_style d) makro t input) text_is
       ∙ ap (λ (i : Option (List ℕ)). expansion_of_call m.id.krate (call_style d) makro (called_text finished m makro (text_at first w makro)) i) input_is
 
-  lacks_by : (key : ExpansionValue) → key ≡ key_at_first → ((grown : TablesValue) → KeepsTables tables grown → IsCallNumberedOut grown (call_kind d) key)
-      → OnceGrown tables w (λ env. LacksExpansion env finished m d makro)
-  lacks_by key is out = λ grown k. record {
-    meant = macro_kept first grown (KeepsTables-trans first tables grown kept k) makro of_macro;
-    out = subst (λ (x : ExpansionValue). IsCallNumberedOut grown (call_kind d) x) (is ∙ sym (expansion_stays grown k)) (out grown k);
-  }
+  meant_still : (grown : TablesValue) → KeepsTables tables grown → IsMeant grown makro
+  meant_still grown k = macro_kept first grown (KeepsTables-trans first tables grown kept k) makro of_macro
 
   -- the expansion can't get a number
   pub lacks_expansion : (key : ExpansionValue) → key ≡ key_at_first → IsFull tables.entries key
-      → OnceGrown tables w (λ env. LacksExpansion env finished m d makro)
-  lacks_expansion key is full =
+      → OnceGrown tables w (λ env. LacksExpansion env finished local m d makro)
+  lacks_expansion key is full = λ grown k.
       let out = full_out tables.entries key full in
-      lacks_by key is (λ grown k. expansion_out (still_out tables.entries grown.entries key k.entries out))
+      no_entry (meant_still grown k)
+      (subst (λ (x : ExpansionValue). IsNumberedOut grown.entries x) (is ∙ sym (expansion_stays grown k)) (still_out tables.entries grown.entries key k.entries out))
 
   -- it has one, and the call can't
-  pub lacks_its_call : (key : ExpansionValue) (entry : EntryId) → key ≡ key_at_first → entry_at tables entry ≡ Some key → IsFull tables.calls (call_loc d entry)
-      → OnceGrown tables w (λ env. LacksExpansion env finished m d makro)
-  lacks_its_call key entry is at full =
-      let loc = call_loc d entry in
-      let out = full_out tables.calls loc full in
-      lacks_by key is (λ grown k. call_out entry (k.entries entry.0 key at) (still_out tables.calls grown.calls loc k.calls out))
+  pub lacks_its_call : (key : ExpansionValue) → key ≡ key_at_first → asked_first makro (w.entry key) ≡ []
+      → OnceGrown tables w (λ env. IsCallNumberedOut env.tables (call_kind d) key)
+      → OnceGrown tables w (λ env. LacksExpansion env finished local m d makro)
+  lacks_its_call key is nothing out = λ grown k.
+      let same : key ≡ expansion_by (environment grown w) finished m d makro = is ∙ sym (expansion_stays grown k) in
+      at_once (meant_still grown k) (subst (λ (x : ExpansionValue). asked_first makro (w.entry x) ≡ []) same nothing)
+      (subst (λ (x : ExpansionValue). IsCallNumberedOut grown (call_kind d) x) same (out grown k))
+
+-- a call whose expansion has a number can't get one
+pub call_numbered_out : (tables : TablesValue) (w : Workspace) (d : MacroDirective) (key : ExpansionValue) (entry : EntryId) → entry_at tables entry ≡ Some key
+    → IsFull tables.calls (call_loc d entry) → OnceGrown tables w (λ env. IsCallNumberedOut env.tables (call_kind d) key)
+call_numbered_out tables w d key entry at full = λ grown k.
+    let loc = call_loc d entry in
+    call_out entry (k.entries entry.0 key at) (still_out tables.calls grown.calls loc k.calls (full_out tables.calls loc full))
+
+-- nor can the expansion
+pub entry_numbered_out : (tables : TablesValue) (w : Workspace) (d : MacroDirective) (key : ExpansionValue) → IsFull tables.entries key
+    → OnceGrown tables w (λ env. IsCallNumberedOut env.tables (call_kind d) key)
+entry_numbered_out tables w d key full = λ grown k. expansion_out (still_out tables.entries grown.entries key k.entries (full_out tables.entries key full))
 
 -- ---- where calls are written
 

@@ -36,7 +36,7 @@ use Rattle.hir_collector_rules.specs.Keys.{Environment, dependency_keys, environ
 use Rattle.hir_collector_rules.specs.ModuleFiles.{LookedAt, Tried, file_readings, tried_in}
 use Rattle.hir_collector_rules.specs.Start.{Beginning, begin_of, block_of, holders_by, krate_of, read_by, start_of}
 use Rattle.hir_collector_rules.specs.State.{State, import_state}
-use Rattle.hir_collector_rules.specs.Steps.{Rule, drops_item, awaits_attribute, lists_derives, faults_derive, exports_macro, reaches_call, rests, expands_call}
+use Rattle.hir_collector_rules.specs.Steps.{Rule, drops_item, awaits_attribute, lists_derives, faults_derive, exports_macro, reaches_call, rests, expands_call, meets_macro}
 use Rattle.hir_collector_rules.specs.Steps.{drops_call, drops_reached, derives_builtin, skips_attribute, falls_back, defines_rules, defines_macro}
 use Rattle.hir_collector_rules.specs.Steps.{closes_module, declares_item, declares_enum, lists_constant, lists_impl, opens_module, opens_file, drops_file}
 use Rattle.hir_collector_rules.specs.Steps.{misses_file, enters_block, reaches_imports, reaches_crate, resolves_imports, May, acts, asking, derives_from}
@@ -202,6 +202,7 @@ module _ (answers : PathsAnswerFromSources) (paths : PathsLeadToWhatIsThere) (fi
     brings_written (exports_macro site head name d e rest) may = (tt, (tt, (tt, (tt, (tt, (tt, (tt, tt)))))))
     brings_written (reaches_call site head path rest) may =
         (tt, (neither (is_some site.tree.block) false (next_visits in_blocks s.agenda _ rest b.sourced.visits may.next).0 refl, tt))
+    brings_written (meets_macro i d makro x) may = (tt, tt)
     brings_written rests may = (tt, tt)
     brings_written (expands_call i d makro x) may =
         (tt, (tt, (tt, fine_expanding Written _ (λ at helper. tt) _ (module_id s.core.map d.site.home) d (error_of x.there) (λ at text. tt) _)))

@@ -38,7 +38,7 @@ use Rattle.hir_collector_rules.specs.Reports.{begins_with, call_report, crates_a
 use Rattle.hir_collector_rules.specs.Reports.{unimplemented_macro, unresolved_among, unresolved_calls}
 use Rattle.hir_collector_rules.specs.Start.{Beginning, begin_of, holders_by, krate_of, read_by}
 use Rattle.hir_collector_rules.specs.State.{State, Task, Visit, visits, import_state}
-use Rattle.hir_collector_rules.specs.Steps.{Rule, drops_item, awaits_attribute, lists_derives, faults_derive, exports_macro, reaches_call, rests, expands_call}
+use Rattle.hir_collector_rules.specs.Steps.{Rule, drops_item, awaits_attribute, lists_derives, faults_derive, exports_macro, reaches_call, rests, expands_call, meets_macro}
 use Rattle.hir_collector_rules.specs.Steps.{drops_call, drops_reached, derives_builtin, skips_attribute, falls_back, defines_rules, defines_macro}
 use Rattle.hir_collector_rules.specs.Steps.{closes_module, declares_item, declares_enum, lists_constant, lists_impl, opens_module, opens_file, drops_file}
 use Rattle.hir_collector_rules.specs.Steps.{misses_file, enters_block, reaches_imports, reaches_crate, resolves_imports, IsFaulty, May, Steps, no_paths}
@@ -215,6 +215,7 @@ module _ (tables : TablesValue) (w : Workspace) (from : Beginning) (answer : Col
     fine_rule (lists_derives v at a adt paths call rest) may = (tt, (tt, (tt, tt)))
     fine_rule (faults_derive v at report rest) may = (tt, (fault_told v rest may.has.on.next may.attribute report may.faulty, tt))
     fine_rule (exports_macro site head name d e rest) may = (tt, (tt, (tt, (tt, (tt, (tt, (tt, tt)))))))
+    fine_rule (meets_macro i d makro x) may = (tt, tt)
     fine_rule rests may = (tt, tt)
     fine_rule (expands_call i d makro x) may = (
       tt,

@@ -56,4 +56,4 @@ source_of entry = option_map (λ e. e.source) entry
 -- what is seen of an expansion beside its items
 abbrev pub look_of : Option EntryValue → EntryLook
 look_of None = absent_entry
-look_of (Some e) = record { present = true; error = e.error; inner = [] }
+look_of (Some e) = record { present = true; error = e.error; inner = e.inner }

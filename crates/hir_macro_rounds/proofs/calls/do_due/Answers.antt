@@ -13,6 +13,7 @@ use Rattle.hir_collector_derives.proofs.CallSteps.{dropped, past_rule}
 use Rattle.hir_mod_collector.proofs.HirCollectorRules.Lists.{get_inside, get_set_same}
 use Rattle.hir_mod_collector.proofs.HirCollectorRules.Numbers.{known_step, refused_step}
 use Rattle.hir_macro_calls.proofs.GivingUp.{has_impl, nothing_due}
+use Rattle.hir_macro_calls.proofs.Meeting.{meets_none}
 use Rattle.hir_mod_collector.proofs.HirCollectorState.Noted.{noted_beside, noted_itself}
 use Rattle.hir_macro_rounds.proofs.calls.do_due.Goals as goal
 
@@ -28,7 +29,7 @@ returns-in-Nothing-clause-tried g c =
     let part = part_of c.args.world in
     let due : IsDueOf part (core_in c.args.run.now) c.args.call.now Nothing = subst (IsDueOf part (core_in c.args.run.now) c.args.call.now) c.in-Nothing.is
     c.requires.due in
-    left refl (nothing_due part (core_in c.args.run.now) c.args.i c.args.call.now c.requires.waits.waiting due)
+    left (meets_none _ _ refl) (nothing_due part (core_in c.args.run.now) c.args.i c.args.call.now c.requires.waits.waiting due)
 
 -- a call that is too deep is dropped
 pub returns-in_err-drop_call-in-TooDeep-clause-many : goal.returns-in_err-drop_call-in-TooDeep-clause-many
@@ -172,9 +173,6 @@ expand-requires-clause-shallow g c =
 pub expand-requires-clause-below : goal.expand-requires-clause-below
 expand-requires-clause-below g c = c.requires.below c.in-Reaches.makro c.in-Reaches.is
 
-pub returns-in_ok-expand-in-Reaches-clause-tried : goal.returns-in_ok-expand-in-Reaches-clause-tried
-returns-in_ok-expand-in-Reaches-clause-tried g c = handled c.args.call.now c.requires.waits.waiting c.in_ok-expand-in-Reaches.ensures.handled
-
 -- what is dropped or derived is noted whatever maps are finished
 pub returns-in_ok-drop_call-in-TooDeep-clause-noted : goal.returns-in_ok-drop_call-in-TooDeep-clause-noted
 returns-in_ok-drop_call-in-TooDeep-clause-noted g c = noted_beside c.in_ok-drop_call-in-TooDeep.ensures.noted
@@ -204,6 +202,5 @@ returns-in_err-derive_builtin-in-Derives-clause-unknown g c = λ h. absurd (know
 pub returns-in_err-drop_reached-in-Drops-clause-unknown : goal.returns-in_err-drop_reached-in-Drops-clause-unknown
 returns-in_err-drop_reached-in-Drops-clause-unknown g c = λ h. absurd (known_step _ _ c.from_residual-in_err-drop_reached-in-Drops.ensures.1 h)
 
-pub returns-in_err-expand-in-Reaches-clause-unknown : goal.returns-in_err-expand-in-Reaches-clause-unknown
-returns-in_err-expand-in-Reaches-clause-unknown g c = λ h.
-    record { at = at_rest (core_in c.args.run.now); steps = none; reaches = c.in_err-expand-in-Reaches.ensures.unknown (search rules) }
+pub returns-in-Reaches-clause-unknown : goal.returns-in-Reaches-clause-unknown
+returns-in-Reaches-clause-unknown g c = λ h. record { at = at_rest (core_in c.args.run.now); steps = none; reaches = c.expand-in-Reaches.ensures.unknown h }

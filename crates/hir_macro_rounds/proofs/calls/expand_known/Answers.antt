@@ -10,6 +10,7 @@ use Rattle.hir_mod_collector.specs.HirItemTree.declared.rows.ModItemId.{ModItemI
 use Rattle.hir_mod_collector.proofs.HirTables.Growth.{KeepsTables-trans}
 use Rattle.hir_mod_collector.specs.HirNameres.WorldParts.{part_of}
 use Rattle.hir_mod_collector.specs.HirCollectorRules.Moves.{OnceGrown, Walks, WalksTooFar}
+use Rattle.hir_mod_collector.specs.HirCollectorRules.CallMoves.{handled, left}
 use Rattle.hir_mod_collector.specs.HirCollectorRules.State.{Core, core_in}
 use Rattle.hir_mod_collector.specs.HirCollectorRules.TreeReads.{visits_at}
 use Rattle.hir_collector_derives.proofs.CallSteps.{expanded_and_walked, expanded_too_far, handled_at_last, past_reported, site_inside, site_meant}
@@ -176,8 +177,8 @@ returns-clause-ok g c =
     new c.in_ok-tick.ensures.ok c.in_ok-site.site ids c.in_ok-site.ensures.value all
     later c.in_ok-walk_all.ensures.kept v c.in_ok-id.ensures.same last walks
 
-pub returns-clause-handled : goal.returns-clause-handled
-returns-clause-handled g c =
+pub returns-clause-tried : goal.returns-clause-tried
+returns-clause-tried g c =
     let tables = c.look_at_call.new.locations in
     let w = g.D.SourceDatabase.workspace c.args.db.now in
     let part = part_of c.args.world in
@@ -198,11 +199,12 @@ returns-clause-handled g c =
     let v = g.D.SourceDatabase.workspace c.look_at_call.new.db in
     let last = core_in c.walk_all.new.run in
     let walks : OnceGrown later v (λ env. Walks env part new last (visits_at source.tree c.in_ok-site.site (numbers_of ids))) = c.in_ok-walk_all.ensures.ok in
-    handled_at_last tables w part old asked c.args.i c.args.call.now c.args.makro seen.0 source seen.1 c.requires.called c.requires.shallow ended noted brought
+    handled c.args.call.now c.requires.called.due.waiting
+    (handled_at_last tables w part old asked c.args.i c.args.call.now c.args.makro seen.0 source seen.1 c.requires.called c.requires.shallow ended noted brought
     reported c.in_ok-id.field-0.id c.in_ok-id.field-0.error c.end_call.ensures.value seen.2 seen.3 c.in_ok-note_call.ensures.ok c.in_ok-bring_helpers.ensures.ok
     c.in_ok-report_failed.ensures.ok
     new c.in_ok-tick.ensures.ok c.in_ok-site.site ids c.in_ok-site.ensures.value all
-    later c.in_ok-walk_all.ensures.kept v c.in_ok-id.ensures.same last walks
+    later c.in_ok-walk_all.ensures.kept v c.in_ok-id.ensures.same last walks)
 
 pub returns-clause-noted : goal.returns-clause-noted
 returns-clause-noted g c =
