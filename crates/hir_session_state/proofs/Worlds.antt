@@ -121,13 +121,18 @@ of_grown None = tt
 of_grown (Some g) = (tt, of_inner g.macros)
 
 -- a call asks for such keys alone
-of_expansion : (own : Crate) (d : MacroDirective) (makro : MacroId) (x : Expanding) → AreOfSources (text_readings makro x.text ++ expansion_readings own d x)
-of_expansion own d makro x =
-    in_both (text_readings makro x.text) (expansion_readings own d x) (of_text makro x.text)
-    (tt, in_both (grown_readings x.grown) (entry_readings own x) (of_grown x.grown) (tt, (tt, tt)))
+of_call_alone : (own : Crate) (d : MacroDirective) (makro : MacroId) (x : Expanding) (key : Key)
+    → Contains (keys_read (text_readings makro x.text ++ expansion_readings own d x)) key → IsOfSources key
+of_call_alone own d makro x key among =
+    of_each (text_readings makro x.text ++ expansion_readings own d x)
+    (in_both (text_readings makro x.text) (expansion_readings own d x) (of_text makro x.text)
+    (tt, in_both (grown_readings x.grown) (entry_readings own x) (of_grown x.grown) (tt, (tt, tt)))) key among
 
-of_eager_call : (own : Crate) (d : MacroDirective) (makro : MacroId) (x : EagerLook) → AreOfSources (eager_readings own d makro x)
-of_eager_call own d makro x = in_both (text_readings makro x.text) _ (of_text makro x.text) (tt, (tt, tt))
+-- so does one that waits for a path that its macro asks for
+of_eager_alone : (own : Crate) (d : MacroDirective) (makro : MacroId) (x : EagerLook) (key : Key) → Contains (keys_read (eager_readings own d makro x)) key
+    → IsOfSources key
+of_eager_alone own d makro x key among =
+    of_each (eager_readings own d makro x) (in_both (text_readings makro x.text) _ (of_text makro x.text) (tt, (tt, tt))) key among
 
 -- a map is asked for because the run's crate depends on its crate, or because it is that of what holds the run's block
 of_map_key : {tables : TablesValue} {w : Workspace} {finished : Maps} {from : Beginning} {last : State} {id : MapId} → HasCause tables w finished from last
@@ -139,9 +144,9 @@ of_map_key (of_holder among) = inr among
 of_map_key (declared_enum home n listed is) = absurd (let wrong : ⊥ = cc in wrong)
 of_map_key (candidate at passed of) = let is = of.is in absurd (let wrong : ⊥ = cc in wrong)
 of_map_key {id = id} (of_call at passed of) =
-    absurd (of_each _ (of_expansion at.core.map.id.krate of.call of.makro of.seen) (keys.Map id) of.among)
+    absurd (of_call_alone at.core.map.id.krate of.call of.makro of.seen (keys.Map id) of.among)
 of_map_key {id = id} (of_eager at passed of) =
-    absurd (of_each _ (of_eager_call at.core.map.id.krate of.call of.makro of.seen) (keys.Map id) of.among)
+    absurd (of_eager_alone at.core.map.id.krate of.call of.makro of.seen (keys.Map id) of.among)
 of_map_key (dependency c among is) = inl (c, among, is)
 of_map_key (handed_in c among is) = absurd (let wrong : ⊥ = cc in wrong)
 
@@ -157,9 +162,9 @@ of_config_key {finished = finished} {from = from} {c = c} (of_holder among) =
 of_config_key (declared_enum home n listed is) = absurd (let wrong : ⊥ = cc in wrong)
 of_config_key (candidate at passed of) = let is = of.is in absurd (let wrong : ⊥ = cc in wrong)
 of_config_key {c = c} (of_call at passed of) =
-    absurd (of_each _ (of_expansion at.core.map.id.krate of.call of.makro of.seen) (keys.Config c) of.among)
+    absurd (of_call_alone at.core.map.id.krate of.call of.makro of.seen (keys.Config c) of.among)
 of_config_key {c = c} (of_eager at passed of) =
-    absurd (of_each _ (of_eager_call at.core.map.id.krate of.call of.makro of.seen) (keys.Config c) of.among)
+    absurd (of_eager_alone at.core.map.id.krate of.call of.makro of.seen (keys.Config c) of.among)
 of_config_key (dependency d among is) = absurd (let wrong : ⊥ = cc in wrong)
 of_config_key {w = w} {from = from} (handed_in d listed is) =
     subst (λ (z : Crate). Contains (krate_of from.start ∷ transitive_dependencies_in w (krate_of from.start)) z) (sym (one_crate is)) listed

@@ -99,7 +99,10 @@ fn begun_with(alloc: Global, path: &str) -> Result<Session, Fail> {
 }
 
 fn is_expanded(rt: &impl Abort, alloc: Global, session: &mut Session) -> Result<(), Fail> {
-    assert!(rt; told(alloc, session)? == (0, 1), "what it depends on now has no expansion");
+    assert!(rt;
+        told(alloc, session)? == (0, 1),
+        "what it depends on now has no expansion"
+    );
     expand(alloc, session)?;
     assert!(rt; told(alloc, session)? == (0, 0));
     Ok(())
@@ -123,7 +126,11 @@ fn missing(rt: HostRuntime) -> Result<(), Fail> {
 /// What is answered where so many paths are asked for.
 fn asked(alloc: Global, session: &mut Session, count: usize) -> Result<Option<EditError>, Fail> {
     let paths = paths(alloc, "hi", count)?;
-    Ok(session.set_inner_paths(alloc, call(alloc)?, paths, None).err())
+    Ok(
+        session
+            .set_inner_paths(alloc, call(alloc)?, paths, None)
+            .err(),
+    )
 }
 
 fn are_limited(rt: &impl Abort, alloc: Global, session: &mut Session) -> Result<(), Fail> {
