@@ -1,5 +1,5 @@
 -- Of what does the next step of a run speak that has no number, where none is left?
-use Rattle.std.specs.Prelude.{◌≡◌, ◌<◌, ℕ, List, Option, Some, slice_get}
+use Rattle.std.specs.Prelude.{◌≡◌, ◌<◌, ℕ, List, [], Option, Some, slice_get}
 use Rattle.std.specs.List.{All}
 use Rattle.hir_nameres.specs.HirBase.Locations.{max_locations}
 use Rattle.hir_nameres.specs.HirBase.ModPath.{Path}
