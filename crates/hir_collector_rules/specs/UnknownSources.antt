@@ -15,7 +15,7 @@ use Rattle.hir_collector_rules.specs.Steps.{CallsMacro, Steps}
 
 -- the source that writes a macro has no number, or that of one which a path reaches in a module
 pub data IsUnknown (tables : TablesValue) (finished : Maps) (s : State) (home : ℕ) (makro : MacroId) : Type 0 where
-  of_macro : ¬ IsMeant tables makro → IsUnknown tables finished s home makro
+  of_itself : ¬ IsMeant tables makro → IsUnknown tables finished s home makro
   of_inner : (path : Path) (inner : MacroId) → inner_macro finished s.core.local s.core.map home path ≡ Some inner → ¬ IsMeant tables inner
       → IsUnknown tables finished s home makro
 

@@ -137,17 +137,11 @@ use Rattle.hir_def_collector_laws.proofs.SourcedItems.{kept_of_kind, answer_of_s
 use Rattle.hir_def_collector_laws.proofs.SourcedEdits.{EditIsClear, EditsAreClear, IsBoundClear, IsSeenClear, entry_clear, greater_clear, items_clear}
 use Rattle.hir_def_collector_laws.proofs.SourcedEdits.{key_clear, on_edge, own_clear, recorded_clear, shown_stands, sourced-edited, variants_clear}
 use Rattle.hir_def_collector_laws.proofs.SourcedMacros.{beside_clear, brought_macros_clear, textual_changed, textual_clear, textual_more, used_clear}
+use Rattle.hir_def_collector_laws.proofs.Found.{expansion_read}
 use Rattle.hir_def_collector_laws.proofs.Whole.{begins, steps_keep}
 use Rattle.hir_def_collector_laws.proofs.WholeChanges.{NamesWhatIsThere}
 use Rattle.hir_def_collector_laws.proofs.SourcedEnded.{HoldsNowhereIn-derived, HoldsNowhereIn-ended, HoldsNowhereIn-noted, stays_ended}
 use Rattle.hir_def_collector_laws.proofs.SourcedState.{on_call, on_site, on_reached, IsSourced, AreClear, ShowsThere, stays_there}
-
--- a call that reaches a macro asks for what it expands to
-expansion_read : (own : Crate) (d : MacroDirective) (makro : MacroId) (x : Expanding)
-    → Contains (keys_read (text_readings makro x.text ++ expansion_readings own d x)) (keys.Tree (call_key own x.id))
-expansion_read own d (macros.Macro2Id id) x = (3, omega arith, refl)
-expansion_read own d (macros.MacroRulesId id) x = (3, omega arith, refl)
-expansion_read own d (macros.ProcMacroId id) x = (2, omega arith, refl)
 
 module _ (t : SourceTest) where
   -- ---- changes
@@ -861,7 +855,7 @@ module _ (t : SourceTest) where
       let first : IsSourced t begun = first_sourced (read_by w all from.start) (subst (HoldsNowhere t) (sym same) clear.read) tables w holders from
       (subst (λ (x : Maps). BeginsClear t x from.start from.tree) (sym same) begun_clear) root in
       let m : Map = ended e.last.core in
-      let reports : List DefDiagnostic = m.diagnostics ++ leftover_reports e.last.core in
+      let reports : List DefDiagnostic = m.diagnostics ++ leftover_reports (read_by w all from.start) e.last.core in
       let reported : Map = record m { diagnostics = reports } in
       let above : ShowsThere t finished reported = subst (λ (x : Map). ShowsThere t finished x) e.map_is clear.shown in
       let grows : Grows m reported = let same_map : Grows m m = Grows-same m

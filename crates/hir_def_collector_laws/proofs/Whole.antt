@@ -805,7 +805,7 @@ module _ (paths : PathsLeadToWhatIsThere) (finished : Maps) (whole : AreWellForm
       let end : NamesWhatIsThere finished e.last = steps_keep paths finished whole env (begin_of tables w all from) e.last
       (in_range-start tables w (read_by w all from.start) (holders_by all from.start) from) first derived in
       let m : Map = ended e.last.core in
-      let reports : List DefDiagnostic = m.diagnostics ++ leftover_reports e.last.core in
+      let reports : List DefDiagnostic = m.diagnostics ++ leftover_reports (read_by w all from.start) e.last.core in
       let reported : Map = record m { diagnostics = reports } in
       let begins_ended : HasNoDanglingExtern (overlay finished m) e.last.core.local =
       HasNoDanglingExtern-more (overlay finished e.last.core.map) (overlay finished m) (Extends-ended finished e.last.core) e.last.core.local end.begins in
