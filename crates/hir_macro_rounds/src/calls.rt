@@ -136,7 +136,7 @@ fn do_due<D: SourceDatabase>(
 ) -> Result<bool, CollectError>
     requires ready { IsReady locations.old (part_of world) (core_in run.old) }
     requires waits { IsDue (at_rest (core_in run.old)) i call.now }
-    requires due { IsDueOf (part_of world) (core_in run.old) call.now due }
+    requires due { IsDueOf (part_of world) (core_in run.old) i call.now due }
     requires below { (makro : MacroId) → due ≡ Due.Reaches makro → call.now.site.level < 4294967295 }
     ensures kept { KeepsTables locations.old locations.new }
     ensures same { D.workspace db.new ≡ D.workspace db.old }

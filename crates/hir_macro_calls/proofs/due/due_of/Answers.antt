@@ -18,5 +18,5 @@ pub returns-then-not-has_expansion-clause-value : goal.returns-then-not-has_expa
 returns-then-not-has_expansion-clause-value c =
     let finds : FindsBuiltin (part_of c.args.world) (core_in c.args.run.now) c.args.call.now c.in-Some.makro =
     record { reaches = sym c.called_macro.ensures.value ∙ c.in-Some.is; builtin = sym c.has_expansion.ensures.value ∙ c.if-not-has_expansion.true } in
-    due_builtin (part_of c.args.world) (core_in c.args.run.now) c.args.call.now c.in-Some.makro c.due_of_builtin.result finds c.due_of_builtin.ensures.derives
+    due_builtin (part_of c.args.world) (core_in c.args.run.now) c.args.i c.args.call.now c.in-Some.makro c.due_of_builtin.result finds c.due_of_builtin.ensures.derives
     c.due_of_builtin.ensures.skips
