@@ -1,5 +1,5 @@
 -- What is seen of a call that reaches a macro.
-use Rattle.std.proofs.Common.{◌≡◌, ◌∙◌, ◌<◌, ℕ, List, [], Option, None, Some, Result, Ok, Err, IsErrAnd, refl, sym, ap, subst, arith}
+use Rattle.std.proofs.Common.{◌≡◌, ◌∙◌, ◌⊎◌, ◌<◌, ℕ, List, [], inl, inr, Option, None, Some, Result, Ok, Err, IsErrAnd, refl, sym, ap, subst, arith}
 use Rattle.std.specs.Prelude.{IsSome, option_map}
 use Rattle.std.specs.Option.{option_and_then}
 use Rattle.hir_collector_rules.specs.HirIds.declared.ast_id.AstId.{AstId}
@@ -90,6 +90,13 @@ module _ (first : TablesValue) (w : Workspace) (c : ContainerValue) (node : AstI
       → IsFull tables.calls (call_loc node entry)
       → HasNoNumber (environment tables w) c node makro
   no_call tables entry kept all at full = call_out all entry (at ∙ ap Some (key_stays tables kept)) (full_out tables.calls (call_loc node entry) full)
+
+  -- so it is where looking it up says so
+  pub no_number : (tables : TablesValue) → KeepsTables first tables → first_missing c (inner_paths (environment tables w) c node makro) ≡ None
+      → IsFull tables.entries key ⊎ ((entry : EntryId) × (entry_at tables entry ≡ Some key) × IsFull tables.calls (call_loc node entry))
+      → HasNoNumber (environment tables w) c node makro
+  no_number tables kept all (inl full) = no_expansion tables kept all full
+  no_number tables kept all (inr (entry, at, full)) = no_call tables entry kept all at full
 
 -- ---- the paths that a macro asks for first
 

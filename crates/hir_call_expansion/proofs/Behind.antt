@@ -1,6 +1,6 @@
 -- What is asked for of a call whose macro asks for paths first.
-use Rattle.std.proofs.Common.{◌≡◌, ◌∙◌, ℕ, ◌++◌, List, [], ◌∷◌, Option, None, Some, refl, sym, ap, subst, inl, inr, map}
-use Rattle.std.specs.Prelude.{IsSome}
+use Rattle.std.proofs.Common.{◌≡◌, ◌∙◌, ℕ, ◌++◌, List, [], ◌∷◌, Option, None, Some, Result, Ok, Err, refl, sym, ap, subst, inl, inr, map}
+use Rattle.std.specs.Prelude.{IfOk, IsSome}
 use Rattle.std.specs.List.{All}
 use Rattle.std.proofs.lemmas.List.Elements.{All-head, All-map, All-tail, All-weaker}
 use Rattle.hir_collector_state.specs.HirBase.ModPath.{Path}
@@ -8,6 +8,7 @@ use Rattle.hir_collector_state.specs.HirBase.declared.macro_kind.MacroText.{Macr
 use Rattle.hir_collector_state.specs.HirIds.declared.ast_id.EntryId.{EntryId}
 use Rattle.hir_collector_state.specs.HirIds.declared.ids.Crate.{Crate}
 use Rattle.hir_collector_state.specs.HirIds.declared.macro_kind.MacroId.{MacroId}
+use Rattle.hir_collector_state.specs.HirTables.Interning.{IsFull}
 use Rattle.hir_collector_state.specs.HirTables.SourcePlaces.{ExpansionValue, SourcePlaceValue, expansion}
 use Rattle.hir_collector_state.specs.HirTables.Tables.{KeepsTables, TablesValue, call_at, entry_at, source_of}
 use Rattle.hir_collector_state.proofs.HirTables.Growth.{KeepsTables-trans}
@@ -30,7 +31,7 @@ use Rattle.hir_collector_state.specs.HirCollectorRules.State.{Core, with_asked}
 use Rattle.hir_collector_state.specs.HirCollectorRules.Steps.{Sees, keys_read, with_keys}
 use Rattle.hir_collector_state.specs.HirCollectorRules.Workspace.{Workspace, seen_of}
 use Rattle.hir_collector_state.proofs.HirCollectorRules.Meaning.{looks_stand}
-use Rattle.hir_collector_state.proofs.HirCollectorRules.Numbers.{tables_stay}
+use Rattle.hir_collector_state.proofs.HirCollectorRules.Numbers.{full_out, still_out, tables_stay}
 use Rattle.hir_collector_state.proofs.HirCollectorRules.ModuleFiles.{call_kept, eager_kept, macro_kept, site_kept}
 use Rattle.hir_call_expansion.specs.Looks.{IsBehindPaths, IsLook, IsLookBehind, LacksBehind}
 use Rattle.hir_call_expansion.specs.declared.expansion.CallLook.{CallLook}
@@ -264,3 +265,60 @@ lacks_behind env finished c d makro key meant is lacks =
     go : LacksBehind env finished c d found (asked_first makro (env.workspace.entry found)) → LacksExpansion env finished c.local c.map d makro
     go (inl out) = no_entry meant out
     go (inr (inner, reached, known, out)) = grown meant inner reached known out
+
+-- where paths reach these macros, whose sources have numbers
+module _ (first : TablesValue) (w : Workspace) (finished : Maps) (c : Core) (d : MacroDirective) (key : ExpansionValue) (paths : List Path) (found : List MacroId)
+    (are : map (inner_macro finished c.local c.map d.site.home) paths ≡ map (λ (makro : MacroId). Some makro) found) (meant : All (IsMeant first) found) where
+  abbrev inner : List InnerMacro
+  inner = inner_of finished w c.local c.map first found
+
+  abbrev wide : ExpansionValue
+  wide = grown_by inner key
+
+  abbrev then_asked : EntryId → Core
+  then_asked entry = record c { asked = with_keys (with_asked c (keys.Expansion entry)).asked (keys_read (inner_readings inner)) }
+
+  -- the expansion was looked up by the key with these
+  pub found_behind : (middle tables : TablesValue) (new : Core) (e : Expansion) (entry other : EntryId) → KeepsTables first middle → KeepsTables middle tables
+      → entry_at middle entry ≡ Some key → entry_at tables other ≡ Some wide → call_at tables e.id ≡ Some (call_loc d other)
+      → e.error ≡ error_of (w.entry wide)
+      → e.source.value ≡ source_in tables w (call_key c.map.id.krate e.id)
+      → new ≡ with_asked (with_asked (then_asked entry) (keys.Expansion other)) (keys.Tree (call_key c.map.id.krate e.id))
+      → IsBehindPaths tables w finished d key paths c new e
+  found_behind middle tables new e entry other before after asks at call error source asked =
+      let kept : KeepsTables first tables = KeepsTables-trans first middle tables before after in
+      record {
+        first = entry;
+        asks = after.entries entry.0 key asks;
+        macros = inner;
+        reached = all_reached finished w c.local c.map first d.site.home paths found are;
+        meant = inner_meant finished w c.local c.map first tables kept found meant;
+        texts = inner_told finished w c.local c.map first tables kept found meant;
+        entry = other;
+        grown = at;
+        call = call;
+        error = error;
+        source = source;
+        asked = asked;
+      }
+
+  -- or gets no number
+  pub out_behind : (tables : TablesValue) → KeepsTables first tables → OnceGrown tables w (λ env. IsCallNumberedOut env.tables (call_kind d) wide)
+      → OnceGrown tables w (λ env. LacksBehind env finished c d key paths)
+  out_behind tables kept out = λ bigger k.
+      inr (
+        inner,
+        all_reached finished w c.local c.map first d.site.home paths found are,
+        inner_meant finished w c.local c.map first bigger (KeepsTables-trans first tables bigger kept k) found meant,
+        out bigger k,
+      )
+
+-- the key that tells the paths gets no number
+pub key_out : (tables : TablesValue) (w : Workspace) (finished : Maps) (c : Core) (d : MacroDirective) (key : ExpansionValue) (paths : List Path)
+    → IsFull tables.entries key → OnceGrown tables w (λ env. LacksBehind env finished c d key paths)
+key_out tables w finished c d key paths full = λ bigger k. inl (still_out tables.entries bigger.entries key k.entries (full_out tables.entries key full))
+
+-- what holds of an answer holds of it in other words
+pub once_ok : {T E : Type 0} (r : Result T E) (P Q : T → Type 0) → ((t : T) → P t → Q t) → IfOk r P → IfOk r Q
+once_ok (Ok t) P Q f p = f t p
+once_ok (Err e) P Q f p = tt
