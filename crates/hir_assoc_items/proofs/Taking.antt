@@ -66,6 +66,11 @@ taken_expanded tables w c i path makro id error source before after old new reac
   meant = written_meant tables (call_tree id) sees.meant (i.level + 1) (top_items source.tree.items);
 }
 
+-- the value of which it is said that there is one
+pub some_of : {A : Type 0} (o : Option A) → IsSome o → (a : A) × (o ≡ Some a)
+some_of None there = absurd (let no : ⊥ = cc in no)
+some_of (Some a) there = (a, refl)
+
 -- a call whose macro asks for a path first that reaches nothing is told for it
 pub taken_waiting : (tables : TablesValue) (w : Workspace) (c : ContainerValue) (i : WrittenValue) (path : Path) (makro : MacroId) (paths : List Path)
     (lacking : Path) (left : List WrittenValue) (old new : ListingValue) → Reaches c i path makro

@@ -119,8 +119,8 @@ fn tell_missing(
     found: &mut Listing,
 ) -> Result<(), AllocError>
     requires missing { IsSome (first_missing (container_view container.now) paths.now) }
-    ensures ok { (path : Path) → first_missing (container_view container.now) paths.now ≡ Some path → OnOk result
-        (listing_view found.new ≡ followed_by (listing_view found.old) (unresolved (container_view container.now) (written_view item.now) path)) }
+    ensures ok { OnOk result ((path : Path) → first_missing (container_view container.now) paths.now ≡ Some path
+        → listing_view found.new ≡ followed_by (listing_view found.old) (unresolved (container_view container.now) (written_view item.now) path)) }
 {
     match first_missing(container, paths) {
         Some(path) => tell_unresolved(container, item, path, found),
@@ -185,14 +185,15 @@ fn expand<D: SourceDatabase>(
     ensures unknown { result ≡ Err AssocItemsError.UnknownSource → IsUnknown locations.new (container_view container.now) makro }
 {
     let node = item.node();
-    let Expansion { id, error, source } =
-        match look_at_call(alloc, db, container, locations, node, makro)? {
-            CallLook::Expands(expansion) => expansion,
-            CallLook::Waits(inner) => {
-                tell_missing(container, item, inner.as_slice(), found)?;
-                return Ok(());
-            }
-        };
+    let look = look_at_call(alloc, db, container, locations, node, makro)?;
+    let expansion = match look {
+        CallLook::Expands(expansion) => expansion,
+        CallLook::Waits(inner) => {
+            tell_missing(container, item, inner.as_slice(), found)?;
+            return Ok(());
+        }
+    };
+    let Expansion { id, error, source } = expansion;
     enter(container, node, id, path, error, found)?;
     let mut inside = of_tree(alloc, call_tree(id), item.level + 1, source.tree())?;
     inside.reverse();
