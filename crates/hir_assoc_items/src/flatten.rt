@@ -122,10 +122,11 @@ fn tell_missing(
     ensures ok { OnOk result ((path : Path) → first_missing (container_view container.now) paths.now ≡ Some path
         → listing_view found.new ≡ followed_by (listing_view found.old) (unresolved (container_view container.now) (written_view item.now) path)) }
 {
-    match first_missing(container, paths) {
-        Some(path) => tell_unresolved(container, item, path, found),
-        None => Ok(()),
-    }
+    let Some(path) = first_missing(container, paths) else {
+        return Ok(());
+    };
+    tell_unresolved(container, item, path, found)?;
+    Ok(())
 }
 
 /// Enters a call that was expanded, and tells what is wrong with its expansion.
