@@ -1,5 +1,5 @@
 -- What is seen of a call that reaches a macro.
-use Rattle.std.proofs.Common.{◌≡◌, ◌∙◌, ◌⊎◌, ◌<◌, ℕ, List, [], inl, inr, Option, None, Some, Result, Ok, Err, IsErrAnd, refl, sym, ap, subst, arith}
+use Rattle.std.proofs.Common.{◌≡◌, ◌∙◌, ◌==◌, ◌⊎◌, ◌<◌, ℕ, true, List, [], ◌∷◌, length, inl, inr, Option, None, Some, Result, Ok, Err, IsErrAnd, refl, sym, ap, subst, arith}
 use Rattle.std.specs.Prelude.{IsSome, option_map}
 use Rattle.std.specs.Option.{option_and_then}
 use Rattle.hir_collector_rules.specs.HirIds.declared.ast_id.AstId.{AstId}
@@ -136,6 +136,11 @@ none_unknown tables c paths nothing = subst (λ (ps : List Path). AreKnown table
   where
     known : AreKnown tables c []
     known path inner (n, below, at) reached = absurd (let past : n < 0 = below in omega arith)
+
+-- a list that counts as empty is
+pub none_there : {A : Type 0} (xs : List A) → true ≡ (length xs == 0) → xs ≡ []
+none_there [] h = refl
+none_there (x ∷ xs) h = absurd cc
 
 -- ---- refusals of tables
 

@@ -1,5 +1,5 @@
 -- What is asked for of a call whose macro asks for paths first.
-use Rattle.std.proofs.Common.{◌≡◌, ◌∙◌, ℕ, ◌++◌, List, [], ◌∷◌, Option, None, Some, Result, Ok, Err, refl, sym, ap, subst, inl, inr, map}
+use Rattle.std.proofs.Common.{◌≡◌, ◌∙◌, ◌==◌, ℕ, true, false, ◌++◌, List, [], ◌∷◌, length, Option, None, Some, Result, Ok, Err, refl, sym, ap, subst, inl, inr, map}
 use Rattle.std.specs.Prelude.{IfOk, IsSome}
 use Rattle.std.specs.List.{All}
 use Rattle.std.proofs.lemmas.List.Elements.{All-head, All-map, All-tail, All-weaker}
@@ -322,3 +322,12 @@ key_out tables w finished c d key paths full = λ bigger k. inl (still_out table
 pub once_ok : {T E : Type 0} (r : Result T E) (P Q : T → Type 0) → ((t : T) → P t → Q t) → IfOk r P → IfOk r Q
 once_ok (Ok t) P Q f p = f t p
 once_ok (Err e) P Q f p = tt
+
+-- a list that counts as empty is, and one that doesn't isn't
+pub none_there : {A : Type 0} (xs : List A) → true ≡ (length xs == 0) → xs ≡ []
+none_there [] h = refl
+none_there (x ∷ xs) h = absurd cc
+
+pub some_there : {A : Type 0} (xs : List A) → false ≡ (length xs == 0) → ¬ (xs ≡ [])
+some_there [] h = absurd cc
+some_there (x ∷ xs) h = λ none. cc

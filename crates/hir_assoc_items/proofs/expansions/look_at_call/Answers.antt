@@ -13,7 +13,7 @@ use Rattle.hir_collector_rules.specs.Workspace.{Workspace}
 use Rattle.hir_assoc_items.specs.AssocItems.{crate_of, expansion_by, first_expansion, first_missing, of_inner, of_macro, texts_reached}
 use Rattle.std.specs.Prelude.{IsSome}
 use Rattle.hir_assoc_items.specs.Steps.{container_view}
-use Rattle.hir_assoc_items.proofs.Expanding.{all_reach, key_grown, key_of_call, key_once, known_at_first, no_number, none_unknown, paths_later, sees_call}
+use Rattle.hir_assoc_items.proofs.Expanding.{all_reach, key_grown, key_of_call, key_once, known_at_first, no_number, none_there, none_unknown, paths_later, sees_call}
 use Rattle.hir_assoc_items.proofs.Growth.{AreKnown}
 use Rattle.hir_assoc_items.proofs.expansions.look_at_call.Goals as goal
 
@@ -41,7 +41,7 @@ returns-then-is_empty-clause-sees g c =
     let paths : List Path = c.in_ok-inner.inner in
     let are : paths ≡ asked_first makro (w.entry key) =
     c.in_ok-inner.ensures.value ∙ ap (asked_first makro) (c.expansion.ensures.value ∙ ap (λ (v : Workspace). v.entry key) after_input) in
-    let nothing : paths ≡ [] = sym c.as_slice.ensures.value ∙ c.is_empty.ensures.0 c.if-is_empty.true in
+    let nothing : paths ≡ [] = sym c.as_slice.ensures.value ∙ none_there c.as_slice.result.now (sym c.if-is_empty.true ∙ c.is_empty.ensures) in
     let later = c.look_up.new.locations in
     let kept = c.look_up.ensures.kept in
     let known = known_at_first tables w of node makro c.requires.meant of_macro key is paths are (none_unknown tables of paths nothing) in
@@ -72,7 +72,7 @@ returns-in_err-look_up-clause-many g c = λ h.
     let paths : List Path = c.in_ok-inner.inner in
     let are : paths ≡ asked_first makro (w.entry key) =
     c.in_ok-inner.ensures.value ∙ ap (asked_first makro) (c.expansion.ensures.value ∙ ap (λ (v : Workspace). v.entry key) after_input) in
-    let nothing : paths ≡ [] = sym c.as_slice.ensures.value ∙ c.is_empty.ensures.0 c.if-is_empty.true in
+    let nothing : paths ≡ [] = sym c.as_slice.ensures.value ∙ none_there c.as_slice.result.now (sym c.if-is_empty.true ∙ c.is_empty.ensures) in
     let later = c.look_up.new.locations in
     let kept = c.look_up.ensures.kept in
     let known = known_at_first tables w of node makro c.requires.meant of_macro key is paths are (none_unknown tables of paths nothing) in

@@ -19,7 +19,7 @@ use Rattle.hir_collector_state.proofs.HirCollectorRules.Numbers.{known_step, ref
 use Rattle.hir_collector_state.proofs.Noted.{noted_follow}
 use Rattle.hir_call_expansion.specs.Looks.{IsLook, IsLookBehind}
 use Rattle.hir_call_expansion.specs.declared.expansion.CallLook.{CallLook}
-use Rattle.hir_call_expansion.proofs.Behind.{lacks_behind, look_at_once, look_behind, once_ok}
+use Rattle.hir_call_expansion.proofs.Behind.{lacks_behind, look_at_once, look_behind, none_there, once_ok, some_there}
 use Rattle.hir_call_expansion.proofs.Looking.{expansion_stays, key_of_call, lacks_its_call, meant_still}
 use Rattle.hir_call_expansion.proofs.expansion.look_at_call.Goals as goal
 
@@ -45,7 +45,7 @@ returns-then-is_empty-clause-ok g c =
     let paths : c.in_ok-inner.inner ≡ asked_first c.args.makro (w.entry (expansion_of_call old.map.id.krate (call_style call) c.args.makro text input)) =
     c.in_ok-inner.ensures.value
     ∙ ap (asked_first c.args.makro) (c.expansion.ensures.value ∙ ap (λ (v : Workspace). v.entry (expansion_value c.in_ok-key.key)) after_input ∙ ap w.entry key) in
-    let nothing : c.in_ok-inner.inner ≡ [] = sym c.as_slice.ensures.value ∙ c.is_empty.ensures.0 c.if-is_empty.true in
+    let nothing : c.in_ok-inner.inner ≡ [] = sym c.as_slice.ensures.value ∙ none_there c.as_slice.result.now (sym c.if-is_empty.true ∙ c.is_empty.ensures) in
     let mid : core_in c.ask.new.self
     ≡ record old { asked = with_keys old.asked (keys_read (text_readings c.args.makro text)) ++ keys.Input old.map.id.krate node ∷ [] } =
     c.in_ok-ask.ensures.ok ∙ ap (λ (i : MapId). with_asked (core_in c.ask_text.new.run) (keys.Input i.krate node)) own
@@ -62,7 +62,7 @@ returns-then-is_empty-clause-ok g c =
 
 -- or it asks for some
 pub look_behind_paths-requires-clause-some : goal.look_behind_paths-requires-clause-some
-look_behind_paths-requires-clause-some g c = λ nothing. c.is_empty.ensures.1 c.if-is_empty.false (c.as_slice.ensures.value ∙ nothing)
+look_behind_paths-requires-clause-some g c = λ nothing. some_there c.as_slice.result.now (sym c.if-is_empty.false ∙ c.is_empty.ensures) (c.as_slice.ensures.value ∙ nothing)
 
 pub returns-clause-ok : goal.returns-clause-ok
 returns-clause-ok g c =
@@ -90,7 +90,7 @@ returns-clause-ok g c =
     ≡ record old { asked = with_keys old.asked (keys_read (text_readings c.args.makro text)) ++ keys.Input old.map.id.krate node ∷ [] } =
     c.in_ok-ask.ensures.ok ∙ ap (λ (i : MapId). with_asked (core_in c.ask_text.new.run) (keys.Input i.krate node)) own
     ∙ ap (λ (x : Core). with_asked x (keys.Input old.map.id.krate node)) (c.in_ok-ask_text.ensures.ok text) in
-    let some : ¬ (asked_first c.args.makro (w.entry at) ≡ []) = λ nothing. c.is_empty.ensures.1 c.if-is_empty.false (c.as_slice.ensures.value ∙ paths ∙ nothing) in
+    let some : ¬ (asked_first c.args.makro (w.entry at) ≡ []) = λ nothing. some_there c.as_slice.result.now (sym c.if-is_empty.false ∙ c.is_empty.ensures) (c.as_slice.ensures.value ∙ paths ∙ nothing) in
     once_ok c.look_behind_paths.result
     (λ (look : CallLook). IsLookBehind tables (g.D.SourceDatabase.workspace c.asked_first.new.db) part call (expansion_value c.in_ok-key.key) c.in_ok-inner.inner
     (core_in c.ask.new.self) new look) (λ (look : CallLook). IsLook tables w part call c.args.makro old new look) (λ look found.
