@@ -1,5 +1,5 @@
 -- An attribute that is inert by now, and what reaches a macro without an expansion.
-use Rattle.std.proofs.Common.{◌≡◌, ◌∙◌, true, Option, Some, subst, sym, rules}
+use Rattle.std.proofs.Common.{◌≡◌, ◌∙◌, true, Option, None, Some, is_some, option_map, refl, subst, sym, rules}
 use Rattle.std.specs.Prelude.{IsSome}
 use Rattle.hir_collector_state.specs.HirBase.ModPath.{Path}
 use Rattle.hir_collector_state.specs.HirNameres.WorldParts.{part_of}
@@ -24,6 +24,10 @@ returns-then-not-has_expansion-clause-value c =
     due_builtin (part_of c.args.world) (core_in c.args.run.now) c.args.i c.args.call.now c.in-Some.makro c.due_of_builtin.result finds c.due_of_builtin.ensures.derives
     c.due_of_builtin.ensures.skips
 
+mapped : {A B : Type 0} (f : A → B) (o : Option A) → is_some o ≡ true → IsSome (option_map f o)
+mapped f None h = h
+mapped f (Some a) h = refl
+
 -- a path is missing that its macro was seen to ask for
 pub returns-then-is_some-clause-value : goal.returns-then-is_some-clause-value
 returns-then-is_some-clause-value c =
@@ -33,7 +37,7 @@ returns-then-is_some-clause-value c =
     let makro = c.in-Some.makro in
     let called : called_macro part core.local core.map d ≡ Some makro = sym c.called_macro.ensures.value ∙ c.in-Some.is in
     let some : IsSome (first_missing part core.local core.map d.site.home (asked_before (eager_at core c.args.i) makro)) =
-    subst (λ (o : Option Path). IsSome o) c.missing_path.ensures.value (search (rules, c.is_some.ensures, c.if-is_some.true)) in (
+    subst (λ (o : Option Path). IsSome o) c.missing_path.ensures.value (mapped _ c.missing_path.result (sym c.is_some.ensures ∙ c.if-is_some.true)) in (
       search rules,
       lacks_missing part core c.args.i d makro called some,
       sym c.is_inert_now.ensures.value ∙ c.if-is_inert_now.false,
