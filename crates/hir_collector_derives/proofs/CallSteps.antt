@@ -35,7 +35,8 @@ use Rattle.hir_collector_state.specs.HirCollectorRules.declared.macro_directive.
 use Rattle.hir_collector_state.specs.HirCollectorRules.declared.macro_directive.Fate.TheVariants.{GivenUp, Handled, Waits}
 use Rattle.hir_collector_state.specs.HirCollectorRules.CallMoves.{NoneWaitsBefore, OnlyMeets, Rested, RestsTooFar, SeesCall, SeesEager, already, moved}
 use Rattle.hir_collector_state.specs.HirCollectorRules.Calls.{DerivedCall, EagerLook, Expanding, IsMeantAt, IsWaiting, LacksMacro, LeadsNowhere}
-use Rattle.hir_collector_state.specs.HirCollectorRules.Calls.{asked_first, call_site, eager_readings, error_of, helpers_brought, helpers_by, inner_macro, is_inert_now, is_same_macro, lacks_inner}
+use Rattle.hir_collector_state.specs.HirCollectorRules.Calls.{asked_first, call_site, eager_readings, error_of, helpers_brought, helpers_by, inner_macro}
+use Rattle.hir_collector_state.specs.HirCollectorRules.Calls.{is_inert_now, is_same_macro, lacks_inner}
 use Rattle.hir_collector_state.specs.HirCollectorRules.Calls.{helpers_of, item_kept, kept_of, waiting_item}
 use Rattle.hir_collector_state.specs.HirCollectorRules.Changes.{Change, act, helps, perform, with_derived}
 use Rattle.hir_collector_state.specs.HirCollectorRules.Derivation.{IsSpent, counted_out, numbered_out}
@@ -47,7 +48,8 @@ use Rattle.hir_collector_state.specs.HirCollectorRules.Moves.{Makes, OnceGrown, 
 use Rattle.hir_collector_state.specs.HirCollectorRules.State.{Core, State, Task, at_rest, behind, counted, eager_at, import_state}
 use Rattle.hir_collector_state.specs.HirCollectorRules.State.{joined, ticked, visit, visits, visits_over, with_fate}
 use Rattle.hir_collector_state.specs.HirCollectorRules.State.{with_eager, with_map, with_settled}
-use Rattle.hir_collector_state.specs.HirCollectorRules.Steps.{CallsMacro, DerivesBuiltin, Expands, FallsBack, IsDeep, IsQuiet, MeetsEager, keys_read, meets_macro, with_keys}
+use Rattle.hir_collector_state.specs.HirCollectorRules.Steps.{CallsMacro, DerivesBuiltin, Expands, FallsBack, IsDeep, IsQuiet, MeetsEager, keys_read}
+use Rattle.hir_collector_state.specs.HirCollectorRules.Steps.{meets_macro, with_keys}
 use Rattle.hir_collector_state.specs.HirCollectorRules.Steps.{IsReachedDeep, May, MayRest, Numbered, Rule, Sees}
 use Rattle.hir_collector_state.specs.HirCollectorRules.Steps.{Skips, Step, Steps, bringing, derives_builtin, drops_call}
 use Rattle.hir_collector_state.specs.HirCollectorRules.Steps.{drops_reached, expands_call, failing, falls_back, none}
@@ -290,7 +292,10 @@ module _ (tables : TablesValue) (w : Workspace) (finished : Maps) (c asked met n
   abbrev asked_keys : List Key
   asked_keys = with_keys c.asked (keys_read (eager_readings c.map.id.krate d makro x))
 
-  is_met : new ≡ counted (with_eager (record c { asked = asked_keys }) i note)
+  abbrev later : Core
+  later = counted (with_eager (record c { asked = asked_keys }) i note)
+
+  is_met : new ≡ later
   is_met = ticks ∙ ap counted (meets ∙ ap (λ (a : Core). with_eager a i note) sees.asked)
 
   -- one step
@@ -310,9 +315,6 @@ module _ (tables : TablesValue) (w : Workspace) (finished : Maps) (c asked met n
         active = λ e waiting. subst (λ (y : MacroDirective). is_inert_now c.map y ≡ false) (same e waiting.call) called.active;
       })
     where
-      abbrev later : Core
-      later = counted (with_eager (record c { asked = asked_keys }) i note)
-
       same : (e : MacroDirective) → slice_get c.calls i ≡ Some e → d ≡ e
       same e at = let first : slice_get c.calls i ≡ Some d = called.due.waiting.call in cc
 

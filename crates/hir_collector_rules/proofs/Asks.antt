@@ -24,7 +24,8 @@ use Rattle.hir_collector_rules.specs.ItemIds.{enum_id}
 use Rattle.hir_collector_rules.specs.Items.{own_visibility}
 use Rattle.hir_collector_rules.specs.Changes.{changes_imports, gives_variants, goes_on, lists, perform}
 use Rattle.hir_collector_rules.specs.Enums.{variants_of}
-use Rattle.hir_collector_rules.specs.Steps.{Rule, drops_item, awaits_attribute, lists_derives, faults_derive, exports_macro, reaches_call, rests, expands_call, meets_macro}
+use Rattle.hir_collector_rules.specs.Steps.{Rule, drops_item, awaits_attribute, lists_derives, faults_derive, exports_macro, reaches_call, rests}
+use Rattle.hir_collector_rules.specs.Steps.{expands_call, meets_macro}
 use Rattle.hir_collector_rules.specs.Steps.{drops_call, drops_reached, derives_builtin, skips_attribute, falls_back, defines_rules, defines_macro}
 use Rattle.hir_collector_rules.specs.Steps.{closes_module, declares_item, declares_enum, lists_constant, lists_impl, opens_module, opens_file, drops_file}
 use Rattle.hir_collector_rules.specs.Steps.{misses_file, enters_block, reaches_imports, reaches_crate, resolves_imports, LooksFor, May, Numbered, Sees, after}

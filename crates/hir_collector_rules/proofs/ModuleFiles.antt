@@ -29,7 +29,8 @@ use Rattle.hir_collector_rules.specs.Calls.{call_loc, call_style, derive_expansi
 use Rattle.hir_collector_rules.specs.ModuleFiles.{AreAbsent, AreNumbered, AreTried, IsNumberOf, IsNumbered, LookedAt, ModuleFile, NoneIsThereBefore, Search}
 use Rattle.hir_collector_rules.specs.ModuleFiles.{Tried, file_key, file_reading, file_readings, file_tree, is_there, module_file, named_by, taken_by, tried_in}
 use Rattle.hir_collector_rules.specs.Steps.{Numbered, Rule, Sees, drops_item, awaits_attribute, lists_derives, faults_derive, exports_macro, reaches_call}
-use Rattle.hir_collector_rules.specs.Steps.{rests, expands_call, meets_macro, drops_call, drops_reached, derives_builtin, skips_attribute, falls_back, defines_rules}
+use Rattle.hir_collector_rules.specs.Steps.{rests, expands_call, meets_macro, drops_call, drops_reached, derives_builtin, skips_attribute, falls_back}
+use Rattle.hir_collector_rules.specs.Steps.{defines_rules}
 use Rattle.hir_collector_rules.specs.Steps.{defines_macro, closes_module, declares_item, declares_enum, lists_constant, lists_impl, opens_module, opens_file}
 use Rattle.hir_collector_rules.specs.Steps.{drops_file, misses_file, enters_block, reaches_imports, reaches_crate, resolves_imports, keys_read}
 use Rattle.hir_collector_rules.specs.State.{State}

@@ -12,8 +12,10 @@ use Rattle.hir_collector_rules.specs.declared.macro_directive.Fate.TheVariants.{
 use Rattle.hir_collector_rules.specs.declared.source_database.Key.{Key}
 use Rattle.hir_collector_rules.specs.declared.macro_directive.MacroDirective.{MacroDirective}
 use Rattle.hir_collector_rules.specs.declared.macro_directive.WaitingItem.{WaitingItem}
-use Rattle.hir_collector_rules.specs.Calls.{EagerLook, Expanding, IsGrown, IsMeantAt, IsMeantCall, IsNumberedCall, IsNumberedEager, IsTextOf, IsWaiting, LeadsNowhere, asked_first}
-use Rattle.hir_collector_rules.specs.Calls.{call_site, called_macro, eager_readings, expansion_readings, first_missing, has_expansion, is_inert_now, text_readings, waiting_item}
+use Rattle.hir_collector_rules.specs.Calls.{EagerLook, Expanding, IsGrown, IsMeantAt, IsMeantCall, IsNumberedCall, IsNumberedEager, IsTextOf, IsWaiting}
+use Rattle.hir_collector_rules.specs.Calls.{LeadsNowhere, asked_first}
+use Rattle.hir_collector_rules.specs.Calls.{call_site, called_macro, eager_readings, expansion_readings, first_missing, has_expansion, is_inert_now}
+use Rattle.hir_collector_rules.specs.Calls.{text_readings, waiting_item}
 use Rattle.hir_collector_rules.specs.Keys.{Environment}
 use Rattle.hir_collector_rules.specs.Moves.{OnceGrown}
 use Rattle.hir_collector_rules.specs.Rounds.{HasManyRounds, IsRound}

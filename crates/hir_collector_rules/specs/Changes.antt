@@ -21,7 +21,8 @@ use Rattle.hir_collector_rules.specs.declared.exported.ExportedFunction.{Exporte
 use Rattle.hir_collector_rules.specs.declared.macro_directive.EagerMacro.{EagerMacro}
 use Rattle.hir_collector_rules.specs.declared.macro_directive.Fate.{Fate}
 use Rattle.hir_collector_rules.specs.declared.macro_directive.MacroDirective.{MacroDirective}
-use Rattle.hir_collector_rules.specs.State.{State, Task, import_state, with_calls, with_eager, with_exported_function, with_fate, with_import_state, with_imports}
+use Rattle.hir_collector_rules.specs.State.{State, Task, import_state, with_calls, with_eager, with_exported_function, with_fate, with_import_state}
+use Rattle.hir_collector_rules.specs.State.{with_imports}
 use Rattle.hir_collector_rules.specs.State.{with_local, with_map, with_settled}
 use Rattle.hir_collector_rules.specs.Invocations.{Invocation, with_noted}
 use Rattle.hir_collector_rules.specs.ItemIds.{module_id}

@@ -1,5 +1,5 @@
 -- Of what does the next step of a run speak that has no number, where none is left?
-use Rattle.std.specs.Prelude.{◌≡◌, ◌<◌, ℕ, List, Option, Some, slice_get}
+use Rattle.std.specs.Prelude.{◌≡◌, ◌<◌, ℕ, List, [], Option, Some, slice_get}
 use Rattle.std.specs.List.{All}
 use Rattle.hir_nameres.specs.HirBase.Locations.{max_locations}
 use Rattle.hir_nameres.specs.HirBase.ModPath.{Path}
@@ -23,7 +23,8 @@ use Rattle.hir_collector_rules.specs.declared.site.Site.{Site}
 use Rattle.hir_collector_rules.specs.Keys.{Environment, IsMeant, input_at, text_at}
 use Rattle.hir_collector_rules.specs.State.{State, Task, Visit}
 use Rattle.hir_collector_rules.specs.Attributes.{attr_id, item_node}
-use Rattle.hir_collector_rules.specs.Calls.{AreReached, InnerMacro, asked_first, call_kind, call_style, called_text, derive_expansion, expansion_of_call, grown_by}
+use Rattle.hir_collector_rules.specs.Calls.{AreReached, InnerMacro, asked_first, call_kind, call_style, called_text, derive_expansion, expansion_of_call}
+use Rattle.hir_collector_rules.specs.Calls.{grown_by}
 use Rattle.hir_collector_rules.specs.ModuleFiles.{IsNumberOf, IsTriedFile}
 use Rattle.hir_collector_rules.specs.Steps.{CallsMacro, IsNext, ListsDerives, path_of, visit}
 

@@ -1,5 +1,6 @@
 -- The steps that the import rules allow: each is a rule, which reads of the workspace and makes changes.
-use Rattle.std.specs.Prelude.{◌≡◌, ◌<◌, ◌≤◌, Contains, ℕ, suc, ◌+◌, Bool, ◌||◌, true, false, List, [], ◌∷◌, ◌++◌, length, map as list_map, Option, Some, None, cond}
+use Rattle.std.specs.Prelude.{◌≡◌, ◌<◌, ◌≤◌, Contains, ℕ, suc, ◌+◌, Bool, ◌||◌, true, false, List, [], ◌∷◌, ◌++◌, length, map as list_map, Option, Some, None}
+use Rattle.std.specs.Prelude.{cond}
 use Rattle.either.specs.declared.Either.TheVariants as either
 use Rattle.hir_nameres.specs.HirBase.Cfg.{Cfg}
 use Rattle.hir_nameres.specs.HirBase.ModPath.{Path}
@@ -57,8 +58,10 @@ use Rattle.hir_collector_rules.specs.Keys.{Environment, of_variants, look}
 use Rattle.hir_collector_rules.specs.ModuleFiles.{IsNumbered, IsSearch, ModuleFile, Reading, Search, file_readings, file_tree, module_file, path_attribute}
 use Rattle.hir_collector_rules.specs.ModuleFiles.{tried_in}
 use Rattle.hir_collector_rules.specs.Attributes.{adt_of, attr_id, export_at, is_derive, item_node, next_attribute, paths_in, proc_macro_id}
-use Rattle.hir_collector_rules.specs.Calls.{EagerLook, Expanding, IsGrown, IsNumberedCall, IsNumberedDerive, IsNumberedEager, IsTextOf, IsWaiting, LeadsNowhere, asked_first, builtin_impl}
-use Rattle.hir_collector_rules.specs.Calls.{call_site, called_macro, eager_readings, error_of, expansion_readings, has_expansion, helpers_brought, inner_macro, is_call, is_inert_now, item_kept}
+use Rattle.hir_collector_rules.specs.Calls.{EagerLook, Expanding, IsGrown, IsNumberedCall, IsNumberedDerive, IsNumberedEager, IsTextOf, IsWaiting}
+use Rattle.hir_collector_rules.specs.Calls.{LeadsNowhere, asked_first, builtin_impl}
+use Rattle.hir_collector_rules.specs.Calls.{call_site, called_macro, eager_readings, error_of, expansion_readings, has_expansion, helpers_brought}
+use Rattle.hir_collector_rules.specs.Calls.{inner_macro, is_call, is_inert_now, item_kept}
 use Rattle.hir_collector_rules.specs.Calls.{path_of_call, text_readings, waiting_item}
 use Rattle.hir_collector_rules.specs.Reports.{IsUnconfigured, IsUnresolvedModule, call_report, failed_call, invalid_target, is_unimplemented, malformed_derive}
 use Rattle.hir_collector_rules.specs.Reports.{unimplemented_macro}
@@ -71,7 +74,8 @@ use Rattle.hir_collector_rules.specs.Items.{declaration_of, declared_module, fil
 use Rattle.hir_collector_rules.specs.Enums.{variants_of}
 use Rattle.hir_collector_rules.specs.Imports.{crate_import, imports_by}
 use Rattle.hir_collector_rules.specs.Macros.{is_exported, is_macro_use, macro_declaration, macros_brought}
-use Rattle.hir_collector_rules.specs.Changes.{Change, lists, makes, gives_variants, begins_paths, reaches, awaits, ends, meets_eager, settles, changes_imports, adds_textual}
+use Rattle.hir_collector_rules.specs.Changes.{Change, lists, makes, gives_variants, begins_paths, reaches, awaits, ends, meets_eager, settles}
+use Rattle.hir_collector_rules.specs.Changes.{changes_imports, adds_textual}
 use Rattle.hir_collector_rules.specs.Changes.{takes_textual, defines, describes, helps, lists_derive, notes, exports, uses_macros, tells, goes_on, perform}
 
 -- ---- what the rules are about

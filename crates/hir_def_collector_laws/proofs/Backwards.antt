@@ -59,7 +59,8 @@ use Rattle.hir_collector_rules.specs.Macros.{is_macro_use, macro_declaration}
 use Rattle.hir_collector_rules.specs.ModuleFiles.{IsNumbered, ModuleFile, Search, file_key, file_readings, file_tree, module_file, tried_in}
 use Rattle.hir_collector_rules.specs.Start.{Beginning}
 use Rattle.hir_collector_rules.specs.State.{Core, State, Task, Visit, behind, visits, import_state, visits_over}
-use Rattle.hir_collector_rules.specs.Steps.{Rule, drops_item, awaits_attribute, lists_derives, faults_derive, exports_macro, reaches_call, rests, expands_call, meets_macro}
+use Rattle.hir_collector_rules.specs.Steps.{Rule, drops_item, awaits_attribute, lists_derives, faults_derive, exports_macro, reaches_call, rests}
+use Rattle.hir_collector_rules.specs.Steps.{expands_call, meets_macro}
 use Rattle.hir_collector_rules.specs.Steps.{drops_call, drops_reached, derives_builtin, skips_attribute, falls_back, defines_rules, defines_macro}
 use Rattle.hir_collector_rules.specs.Steps.{closes_module, declares_item, declares_enum, lists_constant, lists_impl, opens_module, opens_file, drops_file}
 use Rattle.hir_collector_rules.specs.Steps.{misses_file, enters_block, reaches_imports, reaches_crate, resolves_imports, Drops, Expands, HasAttribute, IsItemOf}

@@ -30,7 +30,8 @@ use Rattle.hir_collector_rules.specs.HirImportRules.Rules.{acts as import_acts}
 use Rattle.hir_collector_rules.specs.HirTables.Tables.{TablesValue}
 use Rattle.hir_collector_rules.specs.Attributes.{attr_id, item_node}
 use Rattle.hir_collector_rules.specs.Calls.{AreReached, Grown, InnerMacro, IsGrown, asked_first, by_style, called_macro, entry_readings, error_of}
-use Rattle.hir_collector_rules.specs.Calls.{expansion_readings, grown_readings, inner_macro, inner_readings, path_of_call, style_of, suited, suits, text_readings}
+use Rattle.hir_collector_rules.specs.Calls.{expansion_readings, grown_readings, inner_macro, inner_readings, path_of_call, style_of, suited, suits}
+use Rattle.hir_collector_rules.specs.Calls.{text_readings}
 use Rattle.hir_collector_rules.specs.Changes.{Change, lists, makes, gives_variants, begins_paths, reaches, awaits, ends, settles, changes_imports, adds_textual}
 use Rattle.hir_collector_rules.specs.Changes.{takes_textual, defines, describes, helps, lists_derive, notes, exports, uses_macros, tells, goes_on, act}
 use Rattle.hir_collector_rules.specs.ItemIds.{macro_rules_id, module_id}
@@ -38,7 +39,8 @@ use Rattle.hir_collector_rules.specs.Keys.{Environment, dependency_keys, environ
 use Rattle.hir_collector_rules.specs.ModuleFiles.{LookedAt, Reading, Tried, file_readings, tried_in}
 use Rattle.hir_collector_rules.specs.Start.{Beginning, begin_of, block_of, holders_by, krate_of, read_by, start_of}
 use Rattle.hir_collector_rules.specs.State.{State, import_state}
-use Rattle.hir_collector_rules.specs.Steps.{Rule, drops_item, awaits_attribute, lists_derives, faults_derive, exports_macro, reaches_call, rests, expands_call, meets_macro}
+use Rattle.hir_collector_rules.specs.Steps.{Rule, drops_item, awaits_attribute, lists_derives, faults_derive, exports_macro, reaches_call, rests}
+use Rattle.hir_collector_rules.specs.Steps.{expands_call, meets_macro}
 use Rattle.hir_collector_rules.specs.Steps.{drops_call, drops_reached, derives_builtin, skips_attribute, falls_back, defines_rules, defines_macro}
 use Rattle.hir_collector_rules.specs.Steps.{closes_module, declares_item, declares_enum, lists_constant, lists_impl, opens_module, opens_file, drops_file}
 use Rattle.hir_collector_rules.specs.Steps.{misses_file, enters_block, reaches_imports, reaches_crate, resolves_imports, May, acts, asking, derives_from}

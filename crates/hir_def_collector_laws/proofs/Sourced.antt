@@ -110,9 +110,11 @@ use Rattle.hir_def_collector_laws.specs.Sources.{BeginsClear, IsClearOf}
 use Rattle.hir_collector_rules.specs.Start.{Beginning, begin_of, holders_by, is_declared, krate_of, origin_of, own_prelude, read_by, root_key, root_map}
 use Rattle.hir_collector_rules.specs.Start.{root_site, root_tree, start_data, start_local, start_of, tree_key}
 use Rattle.hir_collector_rules.specs.State.{State, Task, Visit, visits, import_state, visits_over, behind}
-use Rattle.hir_collector_rules.specs.Changes.{Change, lists, makes, gives_variants, begins_paths, reaches, awaits, ends, settles, meets_eager, changes_imports, adds_textual}
+use Rattle.hir_collector_rules.specs.Changes.{Change, lists, makes, gives_variants, begins_paths, reaches, awaits, ends, settles, meets_eager}
+use Rattle.hir_collector_rules.specs.Changes.{changes_imports, adds_textual}
 use Rattle.hir_collector_rules.specs.Changes.{takes_textual, defines, describes, helps, lists_derive, notes, exports, uses_macros, tells, goes_on, act, on_map}
-use Rattle.hir_collector_rules.specs.Steps.{Rule, drops_item, awaits_attribute, lists_derives, faults_derive, exports_macro, reaches_call, rests, expands_call, meets_macro}
+use Rattle.hir_collector_rules.specs.Steps.{Rule, drops_item, awaits_attribute, lists_derives, faults_derive, exports_macro, reaches_call, rests}
+use Rattle.hir_collector_rules.specs.Steps.{expands_call, meets_macro}
 use Rattle.hir_collector_rules.specs.Steps.{drops_call, drops_reached, derives_builtin, skips_attribute, falls_back, defines_rules, defines_macro}
 use Rattle.hir_collector_rules.specs.Steps.{closes_module, visits_in_file, declares_item, declares_enum, lists_constant, lists_impl, opens_module, opens_file}
 use Rattle.hir_collector_rules.specs.Steps.{drops_file, misses_file, enters_block, reaches_imports, reaches_crate, resolves_imports, May, behind, derives_from}

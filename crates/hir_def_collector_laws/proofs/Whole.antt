@@ -115,7 +115,8 @@ use Rattle.hir_collector_rules.specs.Moves.{begun}
 use Rattle.hir_collector_rules.specs.Preludes.{by_prelude, extern_prelude, joins, module_by, module_named, module_of, prelude_of, prelude_path, with_dependency}
 use Rattle.hir_collector_rules.specs.Start.{Beginning, begin_of, holder_of, holders_by, id_of, krate_of, origin_of, own_prelude, read_by, root_map, root_tree}
 use Rattle.hir_collector_rules.specs.Start.{start_data, start_local, start_of, root_visibility}
-use Rattle.hir_collector_rules.specs.Steps.{Rule, drops_item, awaits_attribute, lists_derives, faults_derive, exports_macro, reaches_call, rests, expands_call, meets_macro}
+use Rattle.hir_collector_rules.specs.Steps.{Rule, drops_item, awaits_attribute, lists_derives, faults_derive, exports_macro, reaches_call, rests}
+use Rattle.hir_collector_rules.specs.Steps.{expands_call, meets_macro}
 use Rattle.hir_collector_rules.specs.Steps.{drops_call, drops_reached, derives_builtin, skips_attribute, falls_back, defines_rules, defines_macro}
 use Rattle.hir_collector_rules.specs.Steps.{closes_module, declares_item, declares_enum, lists_constant, lists_impl, opens_module, opens_file, drops_file}
 use Rattle.hir_collector_rules.specs.Steps.{misses_file, enters_block, reaches_imports, reaches_crate, resolves_imports, May, acts, asking, macro_data_of}
