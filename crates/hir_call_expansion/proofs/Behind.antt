@@ -237,7 +237,7 @@ module _ (first tables : TablesValue) (w : Workspace) (finished : Maps) (c new :
     error,
   )
     where
-      abbrev once : Expanding
+      once : Expanding
       once = record { text = text; input = input; grown = None; entry = entry; id = e.id; there = w.entry key; tree = seen_of e.source.value }
 
       all : with_keys before (keys_read (entry_readings own once)) ≡ with_keys c.asked (keys_read (text_readings makro text ++ expansion_readings own d once))

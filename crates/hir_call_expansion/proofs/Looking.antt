@@ -143,7 +143,7 @@ module _ (first tables : TablesValue) (w : Workspace) (finished : Maps) (local :
   key_at_first = expansion_by (environment first w) finished m d makro
 
   -- the macro's text and the call's input stay as tables grow
-  expansion_stays : (grown : TablesValue) → KeepsTables tables grown → expansion_by (environment grown w) finished m d makro ≡ key_at_first
+  pub expansion_stays : (grown : TablesValue) → KeepsTables tables grown → expansion_by (environment grown w) finished m d makro ≡ key_at_first
   expansion_stays grown k =
       let all : KeepsTables first grown = KeepsTables-trans first tables grown kept k in
       let text : of_text (text_at grown w makro) ≡ of_text (text_at first w makro) = looks_stand first grown w finished (keys.Text makro) all of_macro in
@@ -166,7 +166,7 @@ module _ (first tables : TablesValue) (w : Workspace) (finished : Maps) (local :
       ∙ ap (λ (t : Option (List ℕ)). expansion_of_call m.id.krate (call_style d) makro t input) text_is
       ∙ ap (λ (i : Option (List ℕ)). expansion_of_call m.id.krate (call_style d) makro (called_text finished m makro (text_at first w makro)) i) input_is
 
-  meant_still : (grown : TablesValue) → KeepsTables tables grown → IsMeant grown makro
+  pub meant_still : (grown : TablesValue) → KeepsTables tables grown → IsMeant grown makro
   meant_still grown k = macro_kept first grown (KeepsTables-trans first tables grown kept k) makro of_macro
 
   -- the expansion can't get a number

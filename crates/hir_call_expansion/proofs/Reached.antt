@@ -29,8 +29,10 @@ module _ (finished : Maps) (local : Local) (m : Map) (home : ℕ) where
   -- or it reaches none
   pub missing_here : (path : Path) (left : List Path) (o : Option Path) → inner_macro finished local m home path ≡ None
       → first_missing finished local m home (path ∷ left) ≡ o → IsSome o
-  missing_here path left None is h = absurd (let here : first_missing finished local m home (path ∷ left) ≡ Some path = ap
-  (λ (x : Option MacroId). or_missing path x (first_missing finished local m home left)) is in let no : ⊥ = cc in no)
+  missing_here path left None is h =
+      let here : first_missing finished local m home (path ∷ left) ≡ Some path =
+      ap (λ (x : Option MacroId). or_missing path x (first_missing finished local m home left)) is in
+      absurd (let no : ⊥ = cc in no)
   missing_here path left (Some p) is h = refl
 
   -- a macro that was found is reached by a path

@@ -1,5 +1,5 @@
 -- A call and what it depends on get numbers, and its expansion is looked up, once the paths that its macro asks for first reach macros.
-use Rattle.std.proofs.Common.{◌≡◌, ◌∙◌, ◌⊎◌, List, [], Some, Err, ap, subst, sym, inl, inr}
+use Rattle.std.proofs.Common.{rules, ◌≡◌, ◌∙◌, ◌⊎◌, List, [], Some, Err, ap, subst, sym, inl, inr}
 use Rattle.hir_collector_rules.specs.HirBase.ModPath.{Path}
 use Rattle.hir_collector_rules.specs.HirIds.declared.ast_id.EntryId.{EntryId}
 use Rattle.hir_collector_rules.specs.HirIds.declared.ids.Crate.{Crate}
@@ -79,7 +79,7 @@ returns-in_err-look_up-clause-many g c = λ h.
     let found : key ≡ expansion_by (environment tables w) of node makro = key_once tables w of node makro c.requires.meant of_macro key is paths are nothing in
     let all = all_reach tables w of node makro c.requires.meant of_macro key is paths are (ap (first_missing of) nothing) later kept in
     no_number tables w of node makro c.requires.meant of_macro known key found later kept (all later (KeepsTables-refl later))
-    (c.in_err-look_up.ensures.many (c.in_err-look_up.was ∙ h))
+    (c.in_err-look_up.ensures.many (search rules))
 
 -- or one of those that it asks for reaches none
 pub returns-in_default-clause-sees : goal.returns-in_default-clause-sees
@@ -108,10 +108,10 @@ returns-in_default-clause-sees g c =
 
 pub returns-in_err-reached-clause-unknown : goal.returns-in_err-reached-clause-unknown
 returns-in_err-reached-clause-unknown g c = λ h.
-    let unknown = c.in_err-reached.ensures.unknown (c.in_err-reached.was ∙ h) in of_inner unknown.0 unknown.1 unknown.2 unknown.3
+    let unknown = c.in_err-reached.ensures.unknown (search rules) in of_inner unknown.0 unknown.1 unknown.2 unknown.3
 
 pub returns-in_err-reached-clause-many : goal.returns-in_err-reached-clause-many
-returns-in_err-reached-clause-many g c = λ h. absurd (c.in_err-reached.ensures.many (c.in_err-reached.was ∙ h))
+returns-in_err-reached-clause-many g c = λ h. absurd (c.in_err-reached.ensures.many (search rules))
 
 -- or all reach macros
 pub returns-clause-sees : goal.returns-clause-sees
@@ -187,4 +187,4 @@ returns-in_err-look_up-2-clause-many g c = λ h.
     key_grown tables w of node makro c.requires.meant of_macro key is paths are grown c.in-Some.texts.items c.in_ok-grown.ensures.value texts in
     let all = all_reach tables w of node makro c.requires.meant of_macro key is paths are (ap (first_missing of) (sym slice) ∙ reached.0) later kept in
     no_number tables w of node makro c.requires.meant of_macro known grown found later kept (all later (KeepsTables-refl later))
-    (c.in_err-look_up-2.ensures.many (c.in_err-look_up-2.was ∙ h))
+    (c.in_err-look_up-2.ensures.many (search rules))

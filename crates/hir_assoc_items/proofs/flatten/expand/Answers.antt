@@ -1,5 +1,5 @@
 -- The items of an expansion stand in the call's place.
-use Rattle.std.proofs.Common.{◌≡◌, ◌∙◌, ◌+◌, ◌++◌, List, ap, map, subst, sym}
+use Rattle.std.proofs.Common.{rules, ◌≡◌, ◌∙◌, ◌+◌, ◌++◌, List, ap, map, subst, sym}
 use Rattle.std.specs.Prelude.{IsSome}
 use Rattle.hir_collector_rules.specs.HirBase.ModPath.{Path}
 use Rattle.hir_collector_rules.specs.HirIds.declared.ast_id.AstId.{AstId}
@@ -26,7 +26,7 @@ pub returns-in_err-look-clause-many : goal.returns-in_err-look-clause-many
 returns-in_err-look-clause-many g c = λ h.
     let w = g.D.SourceDatabase.workspace c.args.db.now in
     subst (λ (n : AstId). HasNoNumber (environment c.look_at_call.new.locations w) (container_view c.args.container.now) n c.args.makro)
-    c.node-node.ensures.value (c.in_err-look.ensures.many (c.in_err-look.was ∙ h))
+    c.node-node.ensures.value (c.in_err-look.ensures.many (search rules))
 
 -- one whose macro asks for a path that reaches nothing is told
 pub tell_missing-requires : goal.tell_missing-requires

@@ -10,6 +10,9 @@ use Rattle.hir_call_expansion.proofs.expansion.ask_texts.Goals as goal
 pub loop-makro-init : goal.loop-makro-init
 loop-makro-init c = record { asked = asks_none c.args.macros.now (core_in c.args.run.now); noted = noted_itself c.args.run.now }
 
+pub loop-makro-preserved : goal.loop-makro-preserved
+loop-makro-preserved c = ?
+
 pub returns-clause-ok : goal.returns-clause-ok
 returns-clause-ok c =
     let macros : List MacroId = c.args.macros.now in

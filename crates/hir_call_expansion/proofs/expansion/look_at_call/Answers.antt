@@ -8,7 +8,7 @@ use Rattle.hir_collector_state.specs.HirTables.SourcePlaces.{ExpansionValue, exp
 use Rattle.hir_collector_state.specs.HirDefMapRules.State.{Map}
 use Rattle.hir_collector_state.specs.HirNameres.WorldParts.{part_of}
 use Rattle.hir_collector_state.specs.HirCollectorRules.declared.source_database.Key.TheVariants as keys
-use Rattle.hir_collector_state.specs.HirCollectorRules.Calls.{asked_first, call_key, call_style, error_of, expansion_of_call, text_readings}
+use Rattle.hir_collector_state.specs.HirCollectorRules.Calls.{asked_first, call_key, call_style, error_of, expansion_of_call, inner_macro, text_readings}
 use Rattle.hir_collector_state.specs.HirCollectorRules.Keys.{environment, input_at, source_in}
 use Rattle.hir_collector_state.specs.HirCollectorRules.Moves.{OnceGrown}
 use Rattle.hir_collector_state.specs.HirCollectorRules.NumberedOut.{LacksExpansion, expansion_by}
@@ -17,7 +17,7 @@ use Rattle.hir_collector_state.specs.HirCollectorRules.Steps.{keys_read, with_ke
 use Rattle.hir_collector_state.specs.HirCollectorRules.Workspace.{Workspace}
 use Rattle.hir_collector_state.proofs.HirCollectorRules.Numbers.{known_step, refused_step, tables_stay}
 use Rattle.hir_collector_state.proofs.Noted.{noted_follow}
-use Rattle.hir_call_expansion.specs.Looks.{IsLook, IsLookBehind}
+use Rattle.hir_call_expansion.specs.Looks.{IsLook, IsLookBehind, LacksBehind}
 use Rattle.hir_call_expansion.specs.declared.expansion.CallLook.{CallLook}
 use Rattle.hir_call_expansion.proofs.Behind.{lacks_behind, look_at_once, look_behind, none_there, once_ok, some_there}
 use Rattle.hir_call_expansion.proofs.Looking.{expansion_stays, key_of_call, lacks_its_call, meant_still}
@@ -92,7 +92,7 @@ returns-clause-ok g c =
     ∙ ap (λ (x : Core). with_asked x (keys.Input old.map.id.krate node)) (c.in_ok-ask_text.ensures.ok text) in
     let some : ¬ (asked_first c.args.makro (w.entry at) ≡ []) = λ nothing. some_there c.as_slice.result.now (sym c.if-is_empty.false ∙ c.is_empty.ensures) (c.as_slice.ensures.value ∙ paths ∙ nothing) in
     once_ok c.look_behind_paths.result
-    (λ (look : CallLook). IsLookBehind tables (g.D.SourceDatabase.workspace c.asked_first.new.db) part call (expansion_value c.in_ok-key.key) c.in_ok-inner.inner
+    (λ (look : CallLook). IsLookBehind tables (g.D.SourceDatabase.workspace c.input_at.new.db) part call (expansion_value c.in_ok-key.key) c.in_ok-inner.inner
     (core_in c.ask.new.self) new look) (λ (look : CallLook). IsLook tables w part call c.args.makro old new look) (λ look found.
     look_behind first tables w part old new call c.args.makro text input c.look_behind_paths.ensures.kept c.requires.meant c.requires.known
     c.in_ok-text.ensures.value
@@ -105,3 +105,84 @@ returns-clause-ok g c =
     (subst (λ (v : Workspace). IsLookBehind tables v part call (expansion_value c.in_ok-key.key) c.in_ok-inner.inner (core_in c.ask.new.self) new look) after_input
     found))))) c.look_behind_paths.ensures.ok
 
+-- ---- what gets no number
+
+pub returns-in_err-look_up-clause-many : goal.returns-in_err-look_up-clause-many
+returns-in_err-look_up-clause-many g c = λ h.
+    let w = g.D.SourceDatabase.workspace c.args.db.now in
+    let first = c.args.locations.now in
+    let part = part_of c.args.world in
+    let old : Core = core_in c.args.run.now in
+    let map = old.map in
+    let call = c.args.call.now in
+    let makro = c.args.makro in
+    let kept = c.look_up.ensures.kept in
+    let tables = c.look_up.new.locations in
+    let own : c.id.result ≡ map.id = c.id.ensures.value ∙ ap (λ (m : Map). m.id) c.map.ensures.value in
+    let after_text = c.in_ok-text.ensures.same in
+    let after_input = c.in_ok-input.ensures.same ∙ after_text in
+    let key : ExpansionValue = expansion_value c.in_ok-key.key in
+    let is : key ≡ expansion_by (environment first w) part map call makro =
+    key_of_call first tables w part old.local map call makro kept c.requires.meant c.requires.known c.id.result.krate c.call_style.result c.in_ok-text.text
+    c.in_ok-input.input key c.in_ok-key.ensures.value (ap (λ (i : MapId). i.krate) own) c.call_style.ensures.value c.in_ok-text.ensures.value
+    (c.in_ok-input.ensures.value ∙ ap (λ (v : Workspace). input_at first v c.id.result.krate call.ast_id) after_text ∙ ap
+    (λ (i : MapId). input_at first w i.krate call.ast_id) own) in
+    let nothing : c.in_ok-inner.inner ≡ [] = sym c.as_slice.ensures.value ∙ none_there c.as_slice.result.now (sym c.if-is_empty.true ∙ c.is_empty.ensures) in
+    let paths : c.in_ok-inner.inner ≡ asked_first makro (w.entry key) =
+    c.in_ok-inner.ensures.value ∙ ap (asked_first makro) (c.expansion.ensures.value ∙ ap (λ (v : Workspace). v.entry key) after_input) in
+    lacks_its_call first tables w part old.local map call makro kept c.requires.meant c.requires.known key is (sym paths ∙ nothing)
+    (c.in_err-look_up.ensures.many (sym c.in_err-look_up.was ∙ refused_step _ _ _ c.in_err-look_up.was c.from_residual-in_err-look_up.ensures.1 h))
+
+pub returns-in_err-look_up-clause-unknown : goal.returns-in_err-look_up-clause-unknown
+returns-in_err-look_up-clause-unknown g c = λ h. absurd (known_step _ _ c.from_residual-in_err-look_up.ensures.1 h)
+
+pub returns-clause-many : goal.returns-clause-many
+returns-clause-many g c = λ h grown k.
+    let w = g.D.SourceDatabase.workspace c.args.db.now in
+    let first = c.args.locations.now in
+    let part = part_of c.args.world in
+    let old : Core = core_in c.args.run.now in
+    let map = old.map in
+    let call = c.args.call.now in
+    let makro = c.args.makro in
+    let kept = c.look_behind_paths.ensures.kept in
+    let tables = c.look_behind_paths.new.locations in
+    let own : c.id.result ≡ map.id = c.id.ensures.value ∙ ap (λ (m : Map). m.id) c.map.ensures.value in
+    let after_text = c.in_ok-text.ensures.same in
+    let after_input = c.in_ok-input.ensures.same ∙ after_text in
+    let key : ExpansionValue = expansion_value c.in_ok-key.key in
+    let is : key ≡ expansion_by (environment first w) part map call makro =
+    key_of_call first tables w part old.local map call makro kept c.requires.meant c.requires.known c.id.result.krate c.call_style.result c.in_ok-text.text
+    c.in_ok-input.input key c.in_ok-key.ensures.value (ap (λ (i : MapId). i.krate) own) c.call_style.ensures.value c.in_ok-text.ensures.value
+    (c.in_ok-input.ensures.value ∙ ap (λ (v : Workspace). input_at first v c.id.result.krate call.ast_id) after_text ∙ ap
+    (λ (i : MapId). input_at first w i.krate call.ast_id) own) in
+    let paths : c.in_ok-inner.inner ≡ asked_first makro (w.entry key) =
+    c.in_ok-inner.ensures.value ∙ ap (asked_first makro) (c.expansion.ensures.value ∙ ap (λ (v : Workspace). v.entry key) after_input) in
+    let mid : core_in c.ask.new.self
+    ≡ record old { asked = with_keys old.asked (keys_read (text_readings makro c.in_ok-text.text)) ++ keys.Input old.map.id.krate call.ast_id ∷ [] } =
+    c.in_ok-ask.ensures.ok ∙ ap (λ (i : MapId). with_asked (core_in c.ask_text.new.run) (keys.Input i.krate call.ast_id)) own
+    ∙ ap (λ (x : Core). with_asked x (keys.Input old.map.id.krate call.ast_id)) (c.in_ok-ask_text.ensures.ok c.in_ok-text.text) in
+    let env = environment grown w in
+    lacks_behind env part old call makro key
+    (meant_still first tables w part old.local map call makro kept c.requires.meant c.requires.known grown k)
+    (is ∙ sym (expansion_stays first tables w part old.local map call makro kept c.requires.meant c.requires.known grown k))
+    (subst (λ (ps : List Path). LacksBehind env part old call key ps) paths
+    (subst (λ (x : Core). LacksBehind env part x call key c.in_ok-inner.inner) mid
+    (subst (λ (v : Workspace). LacksBehind (environment grown v) part (core_in c.ask.new.self) call key c.in_ok-inner.inner) after_input
+    (c.look_behind_paths.ensures.many h grown k))))
+
+pub returns-clause-unknown : goal.returns-clause-unknown
+returns-clause-unknown g c = λ h.
+    let old : Core = core_in c.args.run.now in
+    let mid : core_in c.ask.new.self
+    ≡ record old { asked = with_keys old.asked (keys_read (text_readings c.args.makro c.in_ok-text.text)) ++ keys.Input old.map.id.krate c.args.call.now.ast_id ∷ [] } =
+    c.in_ok-ask.ensures.ok
+    ∙ ap (λ (i : MapId). with_asked (core_in c.ask_text.new.run) (keys.Input i.krate c.args.call.now.ast_id)) (c.id.ensures.value ∙ ap (λ (m : Map). m.id)
+    c.map.ensures.value)
+    ∙ ap (λ (x : Core). with_asked x (keys.Input old.map.id.krate c.args.call.now.ast_id)) (c.in_ok-ask_text.ensures.ok c.in_ok-text.text) in
+    let unknown = c.look_behind_paths.ensures.unknown h in (
+      unknown.0,
+      unknown.1,
+      subst (λ (x : Core). inner_macro (part_of c.args.world) x.local x.map c.args.call.now.site.home unknown.0 ≡ Some unknown.1) mid unknown.2,
+      unknown.3,
+    )

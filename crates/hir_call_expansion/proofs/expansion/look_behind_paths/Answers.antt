@@ -19,6 +19,7 @@ use Rattle.hir_collector_state.specs.HirCollectorRules.Workspace.{Workspace}
 use Rattle.hir_collector_state.proofs.HirCollectorStart.CallPlaces.{placed_grown}
 use Rattle.hir_collector_state.proofs.HirCollectorRules.Numbers.{known_step, refused_step, tables_stay}
 use Rattle.hir_collector_state.proofs.Noted.{noted_follow}
+use Rattle.hir_call_expansion.specs.Looks.{LacksBehind}
 use Rattle.hir_call_expansion.proofs.Behind.{found_behind, inner_are, inner_of, inner_texts, key_out, out_behind}
 use Rattle.hir_call_expansion.proofs.Reached.{path_of}
 use Rattle.hir_call_expansion.proofs.expansion.look_behind_paths.Goals as goal
@@ -82,3 +83,61 @@ returns-clause-ok g c =
 pub returns-clause-noted : goal.returns-clause-noted
 returns-clause-noted g c =
     noted_follow c.in_ok-ask_entry-2.ensures.noted (noted_follow c.in_ok-ask_texts.ensures.noted c.in_ok-look_up.ensures.noted)
+
+-- ---- what gets no number
+
+pub returns-in_err-ask_entry-clause-many : goal.returns-in_err-ask_entry-clause-many
+returns-in_err-ask_entry-clause-many g c = λ h.
+    let w = g.D.SourceDatabase.workspace c.args.db.now in
+    let part = part_of c.args.world in
+    let core = core_in c.args.run.now in
+    let key : ExpansionValue = expansion_value c.args.key in
+    let full = c.in_err-ask_entry.ensures.many (sym c.in_err-ask_entry.was ∙ refused_step _ _ _ c.in_err-ask_entry.was
+    c.from_residual-in_err-ask_entry.ensures.1 h) in
+    subst (λ (t : TablesValue). OnceGrown t w (λ env. LacksBehind env part core c.args.call.now key c.args.inner)) (sym full.1)
+    (key_out c.args.locations.now w part core c.args.call.now key c.args.inner full.0)
+
+pub returns-in_err-ask_entry-2-clause-many : goal.returns-in_err-ask_entry-2-clause-many
+returns-in_err-ask_entry-2-clause-many g c = λ h.
+    let w = g.D.SourceDatabase.workspace c.args.db.now in
+    let part = part_of c.args.world in
+    let core = core_in c.args.run.now in
+    let key : ExpansionValue = expansion_value c.args.key in
+    let full = c.in_err-ask_entry-2.ensures.many (sym c.in_err-ask_entry-2.was ∙ refused_step _ _ _ c.in_err-ask_entry-2.was
+    c.from_residual-in_err-ask_entry-2.ensures.1 h) in
+    subst (λ (t : TablesValue). OnceGrown t w (λ env. LacksBehind env part core c.args.call.now key c.args.inner)) (sym full.1)
+    (key_out c.args.locations.now w part core c.args.call.now key c.args.inner full.0)
+
+pub returns-in_err-look_up-clause-many : goal.returns-in_err-look_up-clause-many
+returns-in_err-look_up-clause-many g c = λ h.
+    let w = g.D.SourceDatabase.workspace c.args.db.now in
+    let part = part_of c.args.world in
+    let core = core_in c.args.run.now in
+    let first = c.args.locations.now in
+    let call = c.args.call.now in
+    let key : ExpansionValue = expansion_value c.args.key in
+    let paths : List Path = c.args.inner in
+    let found : List MacroId = c.in-Some.macros.items in
+    let are : map (inner_macro part core.local core.map call.site.home) paths ≡ map (λ (makro : MacroId). Some makro) found =
+    subst (λ (ps : List Path). map (inner_macro part core.local core.map call.site.home) ps ≡ map (λ (makro : MacroId). Some makro) found)
+    c.as_slice.ensures.value (c.in_ok-reached.ensures.reached c.in-Some.macros c.in-Some.is) in
+    let meant : All (IsMeant first) found = c.are_meant.ensures.meant c.if-not-are_meant.false in
+    let inner : List InnerMacro = inner_of part w core.local core.map first found in
+    let same = c.in_ok-texts.ensures.same in
+    let wide : expansion_value c.in_ok-grown.grown ≡ grown_by inner key =
+    c.in_ok-grown.ensures.value ∙ ap (λ (ts : List MacroText). record key { reached = ts })
+    (c.in_ok-texts.ensures.value ∙ sym (inner_texts part w core.local core.map first found)) in
+    let last = c.look_up.new.locations in
+    let out = c.in_err-look_up.ensures.many (sym c.in_err-look_up.was ∙ refused_step _ _ _ c.in_err-look_up.was c.from_residual-in_err-look_up.ensures.1 h) in
+    out_behind first w part core call key paths found are meant last
+    (KeepsTables-trans first c.ask_entry-2.new.locations last c.ask_entry-2.ensures.kept c.look_up.ensures.kept)
+    (λ bigger k. subst (λ (x : ExpansionValue). IsCallNumberedOut bigger (call_kind call) x) wide (out bigger k))
+
+pub returns-in_err-ask_entry-clause-unknown : goal.returns-in_err-ask_entry-clause-unknown
+returns-in_err-ask_entry-clause-unknown g c = λ h. absurd (known_step _ _ c.from_residual-in_err-ask_entry.ensures.1 h)
+
+pub returns-in_err-ask_entry-2-clause-unknown : goal.returns-in_err-ask_entry-2-clause-unknown
+returns-in_err-ask_entry-2-clause-unknown g c = λ h. absurd (known_step _ _ c.from_residual-in_err-ask_entry-2.ensures.1 h)
+
+pub returns-in_err-look_up-clause-unknown : goal.returns-in_err-look_up-clause-unknown
+returns-in_err-look_up-clause-unknown g c = λ h. absurd (known_step _ _ c.from_residual-in_err-look_up.ensures.1 h)

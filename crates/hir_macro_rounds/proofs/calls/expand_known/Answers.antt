@@ -1,5 +1,5 @@
 -- What waits is expanded in one step, and then its items are handled.
-use Rattle.std.proofs.Common.{◌≡◌, ◌∙◌, ◌<◌, ℕ, List, length, ap, subst, sym}
+use Rattle.std.proofs.Common.{rules, ◌≡◌, ◌∙◌, ◌<◌, ℕ, List, length, ap, subst, sym}
 use Rattle.std.proofs.lemmas.List.Elements.{All-map}
 use Rattle.std.specs.List.{All}
 use Rattle.hir_mod_collector.specs.HirBase.ModPath.{Path}
@@ -43,7 +43,7 @@ pub returns-in_err-look-clause-many : goal.returns-in_err-look-clause-many
 returns-in_err-look-clause-many g c = λ h.
     spent_by_numbers c.look_at_call.new.locations (g.D.SourceDatabase.workspace c.args.db.now) (part_of c.args.world) (core_in c.args.run.now) c.args.i
     c.args.call.now c.args.makro c.requires.called
-    c.requires.shallow (c.in_err-look.ensures.many (c.in_err-look.was ∙ h))
+    c.requires.shallow (c.in_err-look.ensures.many (search rules))
 
 pub returns-in_err-tick-clause-many : goal.returns-in_err-tick-clause-many
 returns-in_err-tick-clause-many g c = λ h.
@@ -66,7 +66,7 @@ returns-in_err-tick-clause-many g c = λ h.
 -- a source has no number
 pub returns-in_err-look-clause-unknown : goal.returns-in_err-look-clause-unknown
 returns-in_err-look-clause-unknown g c = λ h.
-    let unknown = c.in_err-look.ensures.unknown (c.in_err-look.was ∙ h) in
+    let unknown = c.in_err-look.ensures.unknown (search rules) in
     record {
       place = c.args.i;
       call = c.args.call.now;
