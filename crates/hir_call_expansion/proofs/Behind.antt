@@ -1,6 +1,8 @@
 -- What is asked for of a call whose macro asks for paths first.
-use Rattle.std.proofs.Common.{◌≡◌, ◌∙◌, ◌==◌, ℕ, true, false, ◌++◌, List, [], ◌∷◌, length, Option, None, Some, Result, Ok, Err, refl, sym, ap, subst, inl, inr, map}
-use Rattle.std.specs.Prelude.{IfOk, IsSome}
+use Rattle.std.proofs.Common.{◌≡◌, ◌∙◌, ◌==◌, ℕ, true, false, ◌++◌, List, [], ◌∷◌, length, Option, None, Some, Result, Ok, Err, refl, sym, ap, subst, inl, inr, map, arith}
+use Rattle.std.specs.Prelude.{IfOk, IsSome, OnOk}
+use Rattle.std.proofs.lemmas.Bool.Decides.{nat_tests}
+use Rattle.std.proofs.lemmas.List.{nil_from_length}
 use Rattle.std.specs.List.{All}
 use Rattle.std.proofs.lemmas.List.Elements.{All-head, All-map, All-tail, All-weaker}
 use Rattle.hir_collector_state.specs.HirBase.ModPath.{Path}
@@ -19,12 +21,11 @@ use Rattle.hir_collector_state.specs.HirCollectorRules.declared.source_database.
 use Rattle.hir_collector_state.specs.HirCollectorRules.declared.source_database.Key.TheVariants as keys
 use Rattle.hir_collector_state.specs.HirCollectorRules.declared.macro_directive.MacroDirective.{MacroDirective}
 use Rattle.hir_collector_state.specs.HirCollectorRules.CallMoves.{SeesCall, SeesEager}
-use Rattle.hir_collector_state.specs.HirCollectorRules.Calls.{AreReached, EagerLook, Expanding, InnerMacro, IsMeantCall, IsNumberedCall, IsNumberedEager, IsTextOf}
+use Rattle.hir_collector_state.specs.HirCollectorRules.Calls.{AreReached, EagerLook, Expanding, InnerMacro, IsMeantCall, IsNumberedCall, IsNumberedEager}
 use Rattle.hir_collector_state.specs.HirCollectorRules.Calls.{asked_first, call_key, call_kind, call_loc, call_style, call_tree, called_text, eager_readings, entry_readings, error_of}
 use Rattle.hir_collector_state.specs.HirCollectorRules.Calls.{expansion_of_call, expansion_readings, first_missing, grown_by, inner_macro, inner_readings, text_by, text_readings}
 use Rattle.hir_collector_state.specs.HirCollectorRules.Keys.{Environment, IsMeant, entry_under, environment, input_at}
 use Rattle.hir_collector_state.specs.HirCollectorRules.Keys.{node_tree, of_entry, of_input, of_text, of_tree, source_in, text_at}
-use Rattle.hir_collector_state.specs.HirCollectorRules.ModuleFiles.{Reading}
 use Rattle.hir_collector_state.specs.HirCollectorRules.Moves.{OnceGrown}
 use Rattle.hir_collector_state.specs.HirCollectorRules.NumberedOut.{IsCallNumberedOut, LacksExpansion, expansion_by, grown, no_entry}
 use Rattle.hir_collector_state.specs.HirCollectorRules.State.{Core, with_asked}
@@ -32,7 +33,7 @@ use Rattle.hir_collector_state.specs.HirCollectorRules.Steps.{Sees, keys_read, w
 use Rattle.hir_collector_state.specs.HirCollectorRules.Workspace.{Workspace, seen_of}
 use Rattle.hir_collector_state.proofs.HirCollectorRules.Meaning.{looks_stand}
 use Rattle.hir_collector_state.proofs.HirCollectorRules.Numbers.{full_out, still_out, tables_stay}
-use Rattle.hir_collector_state.proofs.HirCollectorRules.ModuleFiles.{call_kept, eager_kept, macro_kept, site_kept}
+use Rattle.hir_collector_state.proofs.HirCollectorRules.ModuleFiles.{call_kept, eager_kept, macro_kept, site_kept, source_kept}
 use Rattle.hir_call_expansion.specs.Looks.{IsBehindPaths, IsLook, IsLookBehind, LacksBehind}
 use Rattle.hir_call_expansion.specs.declared.expansion.CallLook.{CallLook}
 use Rattle.hir_call_expansion.specs.declared.expansion.Expansion.{Expansion}
@@ -253,10 +254,10 @@ module _ (first tables : TablesValue) (w : Workspace) (finished : Maps) (c new :
 -- ---- what can't get a number
 
 -- what tells the paths, or the key with what they reach, or the call, has no number
-pub lacks_behind : (env : Environment) (finished : Maps) (c : Core) (d : MacroDirective) (makro : MacroId) (key : ExpansionValue) → IsMeant env.tables makro
-    → key ≡ expansion_by env finished c.map d makro
-    → LacksBehind env finished c d key (asked_first makro (env.workspace.entry key)) → LacksExpansion env finished c.local c.map d makro
-lacks_behind env finished c d makro key meant is lacks =
+pub lacks_behind : (env : Environment) (finished : Maps) (c : Core) (d : MacroDirective) (makro : MacroId) (at_first : ExpansionValue) → IsMeant env.tables makro
+    → at_first ≡ expansion_by env finished c.map d makro
+    → LacksBehind env finished c d at_first (asked_first makro (env.workspace.entry at_first)) → LacksExpansion env finished c.local c.map d makro
+lacks_behind env finished c d makro at_first meant is lacks =
     go (subst (λ (k : ExpansionValue). LacksBehind env finished c d k (asked_first makro (env.workspace.entry k))) is lacks)
   where
     found : ExpansionValue
@@ -314,9 +315,10 @@ module _ (first : TablesValue) (w : Workspace) (finished : Maps) (c : Core) (d :
       )
 
 -- the key that tells the paths gets no number
-pub key_out : (tables : TablesValue) (w : Workspace) (finished : Maps) (c : Core) (d : MacroDirective) (key : ExpansionValue) (paths : List Path)
-    → IsFull tables.entries key → OnceGrown tables w (λ env. LacksBehind env finished c d key paths)
-key_out tables w finished c d key paths full = λ bigger k. inl (still_out tables.entries bigger.entries key k.entries (full_out tables.entries key full))
+pub key_out : (tables : TablesValue) (w : Workspace) (finished : Maps) (c : Core) (d : MacroDirective) (at_first : ExpansionValue) (ps : List Path)
+    → IsFull tables.entries at_first → OnceGrown tables w (λ env. LacksBehind env finished c d at_first ps)
+key_out tables w finished c d at_first ps full = λ bigger k.
+    inl (still_out tables.entries bigger.entries at_first k.entries (full_out tables.entries at_first full))
 
 -- what holds of an answer holds of it in other words
 pub once_ok : {T E : Type 0} (r : Result T E) (P Q : T → Type 0) → ((t : T) → P t → Q t) → IfOk r P → IfOk r Q
@@ -324,10 +326,25 @@ once_ok (Ok t) P Q f p = f t p
 once_ok (Err e) P Q f p = tt
 
 -- a list that counts as empty is, and one that doesn't isn't
+zero_long : (n : ℕ) → (n == 0) ≡ true → n ≡ 0
+zero_long n h = grind (arith, nat_tests)
+
 pub none_there : {A : Type 0} (xs : List A) → true ≡ (length xs == 0) → xs ≡ []
-none_there [] h = refl
-none_there (x ∷ xs) h = absurd cc
+none_there xs h = nil_from_length xs (zero_long (length xs) (sym h))
 
 pub some_there : {A : Type 0} (xs : List A) → false ≡ (length xs == 0) → ¬ (xs ≡ [])
 some_there [] h = absurd cc
-some_there (x ∷ xs) h = λ none. cc
+some_there (y ∷ ys) h = λ none. cc
+
+-- what holds where something is well holds so in other words
+pub when_ok : {T E : Type 0} (r : Result T E) (P Q : Type 0) → (P → Q) → OnOk r P → OnOk r Q
+when_ok (Ok t) P Q f p = f p
+when_ok (Err e) P Q f p = tt
+
+-- the numbers of a call mean something as tables grow
+pub meant_later : (tables grown : TablesValue) (d : MacroDirective) → KeepsTables tables grown → IsMeantCall tables d → IsMeantCall grown d
+meant_later tables grown d kept meant = record {
+  site = site_kept tables grown kept d.site meant.site;
+  node = source_kept tables grown kept (node_tree d.ast_id) meant.node;
+  item = meant.item;
+}

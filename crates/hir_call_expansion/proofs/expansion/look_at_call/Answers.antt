@@ -15,11 +15,12 @@ use Rattle.hir_collector_state.specs.HirCollectorRules.NumberedOut.{LacksExpansi
 use Rattle.hir_collector_state.specs.HirCollectorRules.State.{Core, core_in, with_asked}
 use Rattle.hir_collector_state.specs.HirCollectorRules.Steps.{keys_read, with_keys}
 use Rattle.hir_collector_state.specs.HirCollectorRules.Workspace.{Workspace}
-use Rattle.hir_collector_state.proofs.HirCollectorRules.Numbers.{known_step, refused_step, tables_stay}
+use Rattle.hir_collector_state.proofs.HirCollectorRules.Numbers.{refused_step}
+use Rattle.hir_collector_state.specs.Waiting.{IsNoted}
 use Rattle.hir_collector_state.proofs.Noted.{noted_follow}
 use Rattle.hir_call_expansion.specs.Looks.{IsLook, IsLookBehind, LacksBehind}
 use Rattle.hir_call_expansion.specs.declared.expansion.CallLook.{CallLook}
-use Rattle.hir_call_expansion.proofs.Behind.{lacks_behind, look_at_once, look_behind, none_there, once_ok, some_there}
+use Rattle.hir_call_expansion.proofs.Behind.{lacks_behind, look_at_once, look_behind, none_there, once_ok, some_there, when_ok}
 use Rattle.hir_call_expansion.proofs.Looking.{expansion_stays, key_of_call, lacks_its_call, meant_still}
 use Rattle.hir_call_expansion.proofs.expansion.look_at_call.Goals as goal
 
@@ -133,9 +134,6 @@ returns-in_err-look_up-clause-many g c = λ h.
     lacks_its_call first tables w part old.local map call makro kept c.requires.meant c.requires.known key is (sym paths ∙ nothing)
     (c.in_err-look_up.ensures.many (sym c.in_err-look_up.was ∙ refused_step _ _ _ c.in_err-look_up.was c.from_residual-in_err-look_up.ensures.1 h))
 
-pub returns-in_err-look_up-clause-unknown : goal.returns-in_err-look_up-clause-unknown
-returns-in_err-look_up-clause-unknown g c = λ h. absurd (known_step _ _ c.from_residual-in_err-look_up.ensures.1 h)
-
 pub returns-clause-many : goal.returns-clause-many
 returns-clause-many g c = λ h grown k.
     let w = g.D.SourceDatabase.workspace c.args.db.now in
@@ -186,3 +184,14 @@ returns-clause-unknown g c = λ h.
       subst (λ (x : Core). inner_macro (part_of c.args.world) x.local x.map c.args.call.now.site.home unknown.0 ≡ Some unknown.1) mid unknown.2,
       unknown.3,
     )
+
+-- ---- what has changed is noted
+
+pub returns-then-is_empty-clause-noted : goal.returns-then-is_empty-clause-noted
+returns-then-is_empty-clause-noted g c =
+    noted_follow c.in_ok-ask_text.ensures.noted (noted_follow c.in_ok-ask.ensures.noted c.in_ok-look_up.ensures.noted)
+
+pub returns-clause-noted : goal.returns-clause-noted
+returns-clause-noted g c =
+    when_ok c.look_behind_paths.result (IsNoted c.ask.new.self c.look_behind_paths.new.run) (IsNoted c.args.run.now c.look_behind_paths.new.run)
+    (λ noted. noted_follow c.in_ok-ask_text.ensures.noted (noted_follow c.in_ok-ask.ensures.noted noted)) c.look_behind_paths.ensures.noted

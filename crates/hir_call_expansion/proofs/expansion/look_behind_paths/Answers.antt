@@ -1,15 +1,17 @@
 -- Where all paths reach macros, the expansion is looked up by the key with these.
-use Rattle.std.proofs.Common.{◌≡◌, ◌∙◌, List, Some, ap, map, refl, subst, sym}
+use Rattle.std.proofs.Common.{◌≡◌, ◌∙◌, Contains, List, Some, ap, map, refl, subst, sym}
+use Rattle.std.specs.Prelude.{IsSome}
 use Rattle.std.specs.List.{All}
 use Rattle.hir_collector_state.specs.HirBase.ModPath.{Path}
 use Rattle.hir_collector_state.specs.HirBase.declared.macro_kind.MacroText.{MacroText}
 use Rattle.hir_collector_state.specs.HirIds.declared.macro_kind.MacroId.{MacroId}
 use Rattle.hir_collector_state.specs.HirTables.SourcePlaces.{ExpansionValue, expansion_value}
-use Rattle.hir_collector_state.specs.HirTables.Tables.{TablesValue, entry_at}
+use Rattle.hir_collector_state.specs.HirTables.Tables.{TablesValue}
 use Rattle.hir_collector_state.proofs.HirTables.Growth.{KeepsTables-trans}
 use Rattle.hir_collector_state.specs.HirNameres.WorldParts.{part_of}
 use Rattle.hir_collector_state.specs.HirCollectorRules.declared.source_database.Key.TheVariants as keys
-use Rattle.hir_collector_state.specs.HirCollectorRules.Calls.{InnerMacro, call_key, call_kind, error_of, grown_by, inner_macro, inner_readings, text_by}
+use Rattle.hir_collector_state.specs.HirCollectorRules.Calls.{InnerMacro, call_key, call_kind, error_of, first_missing, grown_by, inner_macro, inner_readings}
+use Rattle.hir_collector_state.specs.HirCollectorRules.Calls.{text_by}
 use Rattle.hir_collector_state.specs.HirCollectorRules.Keys.{IsMeant, source_in}
 use Rattle.hir_collector_state.specs.HirCollectorRules.Moves.{OnceGrown}
 use Rattle.hir_collector_state.specs.HirCollectorRules.NumberedOut.{IsCallNumberedOut}
@@ -17,19 +19,21 @@ use Rattle.hir_collector_state.specs.HirCollectorRules.State.{Core, core_in, wit
 use Rattle.hir_collector_state.specs.HirCollectorRules.Steps.{keys_read, with_keys}
 use Rattle.hir_collector_state.specs.HirCollectorRules.Workspace.{Workspace}
 use Rattle.hir_collector_state.proofs.HirCollectorStart.CallPlaces.{placed_grown}
-use Rattle.hir_collector_state.proofs.HirCollectorRules.Numbers.{known_step, refused_step, tables_stay}
+use Rattle.hir_collector_state.proofs.HirCollectorRules.Numbers.{refused_step}
 use Rattle.hir_collector_state.proofs.Noted.{noted_follow}
 use Rattle.hir_call_expansion.specs.Looks.{LacksBehind}
-use Rattle.hir_call_expansion.proofs.Behind.{found_behind, inner_are, inner_of, inner_texts, key_out, out_behind}
+use Rattle.hir_call_expansion.proofs.Behind.{found_behind, inner_are, inner_at, inner_of, inner_texts, key_out, meant_later, out_behind}
 use Rattle.hir_call_expansion.proofs.Reached.{path_of}
 use Rattle.hir_call_expansion.proofs.expansion.look_behind_paths.Goals as goal
 
 -- one path reaches nothing
 pub returns-in_default-clause-ok : goal.returns-in_default-clause-ok
 returns-in_default-clause-ok g c =
+    let core = core_in c.args.run.now in
     let asked = c.in_ok-ask_entry.ensures.ok in (
       refl,
-      subst (λ (ps : List Path). _) c.as_slice.ensures.value (c.in_ok-reached.ensures.missing c.in_default.is),
+      subst (λ (ps : List Path). IsSome (first_missing (part_of c.args.world) core.local core.map c.args.call.now.site.home ps)) c.as_slice.ensures.value
+          (c.in_ok-reached.ensures.missing c.in_default.is),
       asked.0,
       asked.1,
       asked.2,
@@ -44,7 +48,8 @@ returns-then-not-are_meant-clause-unknown g c = λ h.
     let core = core_in c.args.run.now in
     let unknown = c.are_meant.ensures.unknown c.if-not-are_meant.true in
     let path = path_of (part_of c.args.world) core.local core.map c.args.call.now.site.home c.as_slice.result.now c.in-Some.macros.items
-    (c.in_ok-reached.ensures.reached c.in-Some.macros c.in-Some.is) unknown.0 unknown.1 in (path.0, unknown.0, path.1, unknown.2)
+    (c.in_ok-reached.ensures.reached c.in-Some.macros c.in-Some.is) unknown.0
+    (subst (λ (ms : List MacroId). Contains ms unknown.0) c.deref.ensures.value unknown.1) in (path.0, unknown.0, path.1, unknown.2)
 
 -- all have one
 pub returns-clause-ok : goal.returns-clause-ok
@@ -60,7 +65,7 @@ returns-clause-ok g c =
     let are : map (inner_macro part core.local core.map call.site.home) paths ≡ map (λ (makro : MacroId). Some makro) found =
     subst (λ (ps : List Path). map (inner_macro part core.local core.map call.site.home) ps ≡ map (λ (makro : MacroId). Some makro) found)
     c.as_slice.ensures.value (c.in_ok-reached.ensures.reached c.in-Some.macros c.in-Some.is) in
-    let meant : All (IsMeant first) found = c.are_meant.ensures.meant c.if-not-are_meant.false in
+    let meant : All (IsMeant first) found = subst (All (IsMeant first)) c.deref.ensures.value (c.are_meant.ensures.meant c.if-not-are_meant.false) in
     let inner : List InnerMacro = inner_of part w core.local core.map first found in
     let asked = c.in_ok-ask_entry-2.ensures.ok in
     let up = c.in_ok-look_up.ensures.ok in
@@ -68,9 +73,10 @@ returns-clause-ok g c =
     let same = c.in_ok-texts.ensures.same in
     let wide : expansion_value c.in_ok-grown.grown ≡ grown_by inner key =
     c.in_ok-grown.ensures.value ∙ ap (λ (ts : List MacroText). record key { reached = ts })
-    (c.in_ok-texts.ensures.value ∙ sym (inner_texts part w core.local core.map first found)) in
+    (c.in_ok-texts.ensures.value ∙ ap (map (λ (makro : MacroId). text_by (inner_at part w core.local core.map first makro))) c.deref-2.ensures.value
+    ∙ sym (inner_texts part w core.local core.map first found)) in
     let mid : core_in c.ask_texts.new.run ≡ record core { asked = with_keys (with_asked core (keys.Expansion asked.0)).asked (keys_read (inner_readings inner)) } =
-    c.in_ok-ask_texts.ensures.ok inner (inner_are part w core.local core.map first found)
+    c.in_ok-ask_texts.ensures.ok inner (inner_are part w core.local core.map first found ∙ sym c.deref-3.ensures.value)
     ∙ ap (λ (x : Core). record x { asked = with_keys x.asked (keys_read (inner_readings inner)) }) asked.2 in
     found_behind first w part core call key paths found are meant c.ask_entry-2.new.locations c.look_up.new.locations (core_in c.look_up.new.run) e asked.0 up.0
     c.ask_entry-2.ensures.kept c.look_up.ensures.kept asked.1
@@ -121,23 +127,50 @@ returns-in_err-look_up-clause-many g c = λ h.
     let are : map (inner_macro part core.local core.map call.site.home) paths ≡ map (λ (makro : MacroId). Some makro) found =
     subst (λ (ps : List Path). map (inner_macro part core.local core.map call.site.home) ps ≡ map (λ (makro : MacroId). Some makro) found)
     c.as_slice.ensures.value (c.in_ok-reached.ensures.reached c.in-Some.macros c.in-Some.is) in
-    let meant : All (IsMeant first) found = c.are_meant.ensures.meant c.if-not-are_meant.false in
+    let meant : All (IsMeant first) found = subst (All (IsMeant first)) c.deref.ensures.value (c.are_meant.ensures.meant c.if-not-are_meant.false) in
     let inner : List InnerMacro = inner_of part w core.local core.map first found in
     let same = c.in_ok-texts.ensures.same in
     let wide : expansion_value c.in_ok-grown.grown ≡ grown_by inner key =
     c.in_ok-grown.ensures.value ∙ ap (λ (ts : List MacroText). record key { reached = ts })
-    (c.in_ok-texts.ensures.value ∙ sym (inner_texts part w core.local core.map first found)) in
+    (c.in_ok-texts.ensures.value ∙ ap (map (λ (makro : MacroId). text_by (inner_at part w core.local core.map first makro))) c.deref-2.ensures.value
+    ∙ sym (inner_texts part w core.local core.map first found)) in
     let last = c.look_up.new.locations in
     let out = c.in_err-look_up.ensures.many (sym c.in_err-look_up.was ∙ refused_step _ _ _ c.in_err-look_up.was c.from_residual-in_err-look_up.ensures.1 h) in
     out_behind first w part core call key paths found are meant last
     (KeepsTables-trans first c.ask_entry-2.new.locations last c.ask_entry-2.ensures.kept c.look_up.ensures.kept)
     (λ bigger k. subst (λ (x : ExpansionValue). IsCallNumberedOut bigger (call_kind call) x) wide (out bigger k))
 
-pub returns-in_err-ask_entry-clause-unknown : goal.returns-in_err-ask_entry-clause-unknown
-returns-in_err-ask_entry-clause-unknown g c = λ h. absurd (known_step _ _ c.from_residual-in_err-ask_entry.ensures.1 h)
+-- ---- tables grow
 
-pub returns-in_err-ask_entry-2-clause-unknown : goal.returns-in_err-ask_entry-2-clause-unknown
-returns-in_err-ask_entry-2-clause-unknown g c = λ h. absurd (known_step _ _ c.from_residual-in_err-ask_entry-2.ensures.1 h)
+pub look_up-requires : goal.look_up-requires
+look_up-requires g c =
+    record { meant = meant_later c.args.locations.now c.ask_entry-2.new.locations c.args.call.now c.ask_entry-2.ensures.kept c.requires.meant }
 
-pub returns-in_err-look_up-clause-unknown : goal.returns-in_err-look_up-clause-unknown
-returns-in_err-look_up-clause-unknown g c = λ h. absurd (known_step _ _ c.from_residual-in_err-look_up.ensures.1 h)
+pub returns-in_err-ask_entry-clause-placed : goal.returns-in_err-ask_entry-clause-placed
+returns-in_err-ask_entry-clause-placed g c = placed_grown c.args.locations.now c.ask_entry.new.locations c.ask_entry.ensures.kept c.ask_entry.ensures.calls
+
+pub returns-in_err-ask_entry-2-clause-placed : goal.returns-in_err-ask_entry-2-clause-placed
+returns-in_err-ask_entry-2-clause-placed g c =
+    placed_grown c.args.locations.now c.ask_entry-2.new.locations c.ask_entry-2.ensures.kept c.ask_entry-2.ensures.calls
+
+pub returns-in_err-ask_texts-clause-placed : goal.returns-in_err-ask_texts-clause-placed
+returns-in_err-ask_texts-clause-placed g c =
+    placed_grown c.args.locations.now c.ask_entry-2.new.locations c.ask_entry-2.ensures.kept c.ask_entry-2.ensures.calls
+
+pub returns-in_err-look_up-clause-placed : goal.returns-in_err-look_up-clause-placed
+returns-in_err-look_up-clause-placed g c = λ placed.
+    c.look_up.ensures.placed
+    (placed_grown c.args.locations.now c.ask_entry-2.new.locations c.ask_entry-2.ensures.kept c.ask_entry-2.ensures.calls placed)
+
+pub returns-clause-placed : goal.returns-clause-placed
+returns-clause-placed g c = λ placed.
+    c.look_up.ensures.placed
+    (placed_grown c.args.locations.now c.ask_entry-2.new.locations c.ask_entry-2.ensures.kept c.ask_entry-2.ensures.calls placed)
+
+pub returns-in_err-look_up-clause-kept : goal.returns-in_err-look_up-clause-kept
+returns-in_err-look_up-clause-kept g c =
+    KeepsTables-trans c.args.locations.now c.ask_entry-2.new.locations c.look_up.new.locations c.ask_entry-2.ensures.kept c.look_up.ensures.kept
+
+pub returns-clause-kept : goal.returns-clause-kept
+returns-clause-kept g c =
+    KeepsTables-trans c.args.locations.now c.ask_entry-2.new.locations c.look_up.new.locations c.ask_entry-2.ensures.kept c.look_up.ensures.kept
