@@ -1,12 +1,18 @@
 -- Which of the paths that an eager macro asks for is the first that reaches nothing, where they are looked at one macro after another?
-use Rattle.std.specs.Prelude.{◌≡◌, ℕ, Bool, true, false, List, [], ◌∷◌, ◌++◌, Option, None, Some, cond}
-use Rattle.std.proofs.Common.{refl}
+use Rattle.std.proofs.Common.{◌≡◌, ◌∙◌, ℕ, ◌+◌, ◌-◌, ◌≤◌, Bool, true, false, List, [], ◌∷◌, ◌++◌, length, take, drop, get_or, Option, None, Some, cond, refl, sym, ap, arith}
+use Rattle.std.proofs.lemmas.List.{take_all}
 use Rattle.hir_collector_rules.specs.HirBase.ModPath.{Path}
 use Rattle.hir_collector_rules.specs.HirIds.declared.macro_kind.MacroId.{MacroId}
 use Rattle.hir_collector_rules.specs.HirDefMapRules.Overlay.{Maps}
 use Rattle.hir_collector_rules.specs.HirDefMapRules.State.{Local, Map}
 use Rattle.hir_collector_rules.specs.declared.macro_directive.EagerMacro.{EagerMacro}
 use Rattle.hir_collector_rules.specs.Calls.{asked_before, first_missing, inner_macro, is_same_macro, or_missing}
+
+-- a list that isn't empty is its first and the others
+pub one_first : (es : List EagerMacro) (e d : EagerMacro) → 1 ≤ length es → e ≡ get_or es 0 d → es ≡ e ∷ take (length es - 1) (drop 1 es)
+one_first [] e d h is = absurd (omega arith)
+one_first (x ∷ xs) e d h is =
+    ap (λ (y : EagerMacro). y ∷ xs) (sym is) ∙ ap (λ (ys : List EagerMacro). e ∷ ys) (sym (take_all (length (x ∷ xs) - 1) xs (omega arith)))
 
 module _ (finished : Maps) (local : Local) (m : Map) (home : ℕ) where
   -- one that is missing among some is so among these and more
