@@ -168,8 +168,11 @@ fn told_text<D: SourceDatabase>(
     locations: &Tables,
     makro: MacroId,
 ) -> Result<MacroText, AllocError>
-    ensures value { IfOk result (λ text. text ≡ text_by (record { makro = makro; text =
-        macro_text (environment locations.now (D.workspace db.old)) (maps_of maps.entry) makro })) }
+    ensures value { IfOk result (λ text. text ≡ text_by (record {
+      makro = makro;
+      text =
+          macro_text (environment locations.now (D.workspace db.old)) (maps_of maps.entry) makro;
+    })) }
     ensures same { D.workspace db.new ≡ D.workspace db.old }
 {
     let text = macro_text(alloc, db, maps, locations, makro)?;
