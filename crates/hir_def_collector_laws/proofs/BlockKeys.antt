@@ -194,7 +194,7 @@ module _ (answers : PathsAnswerFromSources) (paths : PathsLeadToWhatIsThere) (fi
     inner_blockless home (p ∷ ps) [] h = absurd h
     inner_blockless home (p ∷ ps) (i ∷ is) h =
         both_read (text_readings i.makro i.text) (inner_readings is) (text_blockless i.makro i.text (inner_clear home p i.makro h.0))
-        (inner_blockless home ps is h.1.1)
+        (inner_blockless home ps is h.2)
 
     grown_blockless : (home : ℕ) (makro : MacroId) (there : EntryLook) (g : Option Grown) → IsGrown finished s.core.local s.core.map home makro there g
         → Blockless (keys_read (grown_readings g))

@@ -12,7 +12,7 @@ use Rattle.hir_collector_rules.specs.declared.source_database.Key.{Key}
 use Rattle.hir_collector_rules.specs.declared.source_database.Key.TheVariants as keys
 use Rattle.hir_collector_rules.specs.Calls.{Expanding, call_key, entry_readings, expansion_readings, grown_readings, text_readings}
 use Rattle.hir_collector_rules.specs.Workspace.{Workspace, seen_of}
-use Rattle.hir_collector_rules.specs.Keys.{Environment, Look, absent_source, environment, tree_at}
+use Rattle.hir_collector_rules.specs.Keys.{Environment, Look, absent_source, environment, of_input, tree_at}
 use Rattle.hir_collector_rules.specs.ModuleFiles.{LookedAt, ModuleFile, Reading, Tried, file_key, file_reading, file_readings, module_file}
 use Rattle.hir_collector_rules.specs.Steps.{Sees, keys_read}
 use Rattle.hir_collector_rules.proofs.Asked.{seen_tree}
@@ -66,4 +66,5 @@ expansion_read krate d makro x =
     let key : Key = keys.Tree (call_key krate x.id) in
     let last : Contains (keys_read (entry_readings krate x)) key = (1, omega arith, refl) in
     read_behind (text_readings makro x.text) (expansion_readings krate d x) key
-    (read_first _ (grown_readings x.grown ++ entry_readings krate x) key (read_behind (grown_readings x.grown) (entry_readings krate x) key last))
+    (read_first (record { key = keys.Input krate d.ast_id; there = of_input x.input }) (grown_readings x.grown ++ entry_readings krate x) key
+        (read_behind (grown_readings x.grown) (entry_readings krate x) key last))

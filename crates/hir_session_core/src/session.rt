@@ -14,7 +14,7 @@
 //! The one difficulty: no query looks at a source. What is kept of a place is right because it is what the import rules could
 //! have given just now, over the present sources: the invariant of a session says so of each place, and an edit or a refresh that ends
 //! early leaves it true.
-ghost use Rattle.std.specs.Prelude.{◌≡◌, ℕ, List, Option, map, length, None, Some, IfOk, OnOk, OnErr, IfErr, ◌≤◌, ◌⊎◌, Ok, Err};
+ghost use Rattle.std.specs.Prelude.{◌≡◌, map, length, None, Some, IfOk, OnOk, OnErr, IfErr, ◌≤◌, ◌⊎◌, Ok, Err};
 ghost use Rattle.hir_session_state.specs.HirIds.Refusal.{Gives};
 ghost use Rattle.hir_session_state.specs.HirMessages.CommandValue.{crate_input_view};
 ghost use Rattle.hir_session_state.specs.HirTables.SourcePlaces.{expansion_value};
@@ -24,7 +24,7 @@ ghost use Rattle.std.specs.List.{list_any};
 ghost use Rattle.hir_session_state.specs.HirItemTree.Limits.{is_long};
 ghost use Rattle.hir_session_state.specs.HirItemTree.Source.{source_view};
 ghost use Rattle.hir_session_state.specs.SourceEdits.{edited, of_expansion, of_file};
-ghost use Rattle.hir_session_state.specs.Refusals.{first_out_of_order, verdict_of_new, IsNewMemory, verdict_of_apply, verdict_of_entry, verdict_of_expansion, verdict_of_removal, verdict_of_source, IsEditMemory};
+ghost use Rattle.hir_session_state.specs.Refusals.{first_out_of_order, verdict_of_new, IsNewMemory, verdict_of_apply, verdict_of_expansion, verdict_of_inner, verdict_of_removal, verdict_of_source, IsEditMemory};
 ghost use Rattle.hir_session_sources.specs.EditValues.{entry_value};
 ghost use Rattle.hir_session_state.specs.Changes.{Becomes, Applies};
 
@@ -134,7 +134,7 @@ fn any_long(paths: &[ModPath]) -> bool
 
 /// Whether paths that a macro asks to have resolved first are within the limits.
 fn check_paths(paths: &Vec<ModPath>) -> Result<(), EditError>
-    ensures value { (error : Option (List ℕ)) → result ≡ verdict_of_entry (inner_entry paths.now.items error) }
+    ensures value { result ≡ verdict_of_inner paths.now.items }
 {
     if any_long(paths) {
         return Err(EditError::TooLarge(Limit::Path));

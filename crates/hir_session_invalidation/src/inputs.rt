@@ -182,11 +182,7 @@ impl Inputs {
     }
 
     /// Sets an expansion. What it had under the crate that calls isn't kept.
-    pub fn set_expansion(
-        &mut self,
-        key: ExpansionKey,
-        entry: Entry,
-    ) -> Result<(), AllocError>
+    pub fn set_expansion(&mut self, key: ExpansionKey, entry: Entry) -> Result<(), AllocError>
         ensures ok { OnOk result (self.new ≡ record self.old { sources = record self.old.sources { entries = with_entry self.old.sources.entries (expansion_value key) (entry_value entry) } }) }
         ensures err { OnErr result (self.new ≡ self.old) }
     {

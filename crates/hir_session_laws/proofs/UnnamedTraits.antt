@@ -473,7 +473,7 @@ module _ (t : SourceTest) where
       let first : IsSourced t begun = first_sourced t (read_by w all from.start) (subst (HoldsNowhere t) (sym same) nowhere) tables w holders from
       (subst (λ (x : Maps). BeginsClear t x from.start from.tree) (sym same) begun_so) root in
       let m : Map = ended e.last.core in
-      let reports : List DefDiagnostic = m.diagnostics ++ leftover_reports e.last.core in
+      let reports : List DefDiagnostic = m.diagnostics ++ leftover_reports (read_by w all from.start) e.last.core in
       let reported : Map = record m { diagnostics = reports } in
       let above : ShowsThere t finished reported = subst (λ (x : Map). ShowsThere t finished x) e.map_is clear.shown in
       let grows : Grows m reported = let same_map : Grows m m = Grows-same m

@@ -8,6 +8,7 @@ ghost use Rattle.hir_session_state.specs.Entries.{look_of, source_of};
 use crate::entry::Entry;
 use hir_base::mod_path::ModPath;
 use hir_base::text::Text;
+use hir_item_tree::same::same_path;
 use hir_item_tree::source::Source;
 use hir_session_state::hir_collector_rules::source_database::ExpansionLook;
 
@@ -52,19 +53,15 @@ fn is_same_error(one: &Option<Text>, other: &Option<Text>) -> bool
 fn are_same_paths(one: &[ModPath], other: &[ModPath]) -> bool
     ensures exact { IsTrue result ↔ (one.now ≡ other.now) }
 {
-    let mut left = one;
-    let mut right = other;
-    'next: while let [path, paths @ ..] = left {
-        let [other_path, others @ ..] = right else {
-            return false;
-        };
-        if *path != *other_path {
+    if one.len() != other.len() {
+        return false;
+    }
+    for i in 0..one.len() {
+        if !same_path(&one[i], &other[i]) {
             return false;
         }
-        left = paths;
-        right = others;
     }
-    right.is_empty()
+    true
 }
 
 /// Whether the same is seen of an expansion beside its items.

@@ -124,11 +124,7 @@ impl SourceTable {
     }
 
     /// Sets an expansion.
-    pub fn set_expansion(
-        &mut self,
-        key: ExpansionKey,
-        entry: Entry,
-    ) -> Result<(), AllocError>
+    pub fn set_expansion(&mut self, key: ExpansionKey, entry: Entry) -> Result<(), AllocError>
         ensures ok { OnOk result (self.new
             ≡ record self.old { entries = with_entry self.old.entries (expansion_value key) (entry_value entry) }) }
         ensures err { OnErr result (self.new ≡ self.old) }

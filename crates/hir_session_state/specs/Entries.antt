@@ -1,5 +1,5 @@
 -- What has a session of each expansion?
-use Rattle.std.specs.Prelude.{true, not, List, [], filter, map, option_map, Option, Some, None}
+use Rattle.std.specs.Prelude.{true, not, List, filter, map, option_map, Option, Some, None}
 use Rattle.std.specs.Ordering.{nat_cmp, on, then_cmp}
 use Rattle.std.specs.Cmp.Lexicographic.{slice_cmp}
 use Rattle.std.specs.BTreeMap.{is_at, insert_entry}

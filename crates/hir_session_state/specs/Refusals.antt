@@ -2,6 +2,7 @@
 use Rattle.std.specs.Prelude.{◌≡◌, ℕ, ◌+◌, Bool, false, true, ◌&&◌, not, nat_le, nat_lt, List, [], ◌∷◌, length, map, Option, Some, None, Result, Ok, Err}
 use Rattle.std.specs.Prelude.{if◌then◌else◌}
 use Rattle.std.specs.List.{list_all, list_any}
+use Rattle.hir_collector_rules.specs.HirBase.ModPath.{Path}
 use Rattle.hir_collector_rules.specs.HirBase.declared.place.BlockPlace.{BlockPlace}
 use Rattle.hir_collector_rules.specs.HirIds.declared.ids.Crate.{Crate}
 use Rattle.hir_collector_rules.specs.HirBase.declared.limit.Limit.{Limit}
