@@ -1,5 +1,5 @@
 -- A call watches what two paths read, and of a macro that asks for paths first which of them reaches nothing.
-use Rattle.std.proofs.Common.{◌≡◌, ◌∙◌, ◌==◌, ℕ, Bool, true, false, length, List, [], ◌∷◌, ◌++◌, Option, None, Some, Contains, cond, refl, sym, ap, subst, inl, inr, ◌⊎◌, ◌<◌, zero, suc, arith}
+use Rattle.std.proofs.Common.{◌≡◌, ◌∙◌, ◌==◌, ℕ, Bool, true, false, length, List, [], ◌∷◌, ◌++◌, Option, None, Some, Contains, cond, refl, sym, ap, subst, inl, inr, ◌<◌, zero, suc, arith}
 use Rattle.std.specs.List.{All}
 use Rattle.std.specs.Prelude.{IsSome}
 use Rattle.std.proofs.lemmas.Bool.Decides.{nat_tests}
@@ -14,7 +14,7 @@ use Rattle.hir_collector_state.specs.HirImportRules.Changed.{IsThere}
 use Rattle.hir_collector_state.specs.HirNameres.declared.nameres.path_resolution.slots.Slot.{Slot as PathSlot}
 use Rattle.hir_worklist.specs.Watching.{is_watching}
 use Rattle.hir_import_resolution.specs.Inner.Queue.{slot_cmp}
-use Rattle.hir_call_queue.specs.Waking.{GoesOn, IsWatching, is_apart, watchers_of, worklist_of}
+use Rattle.hir_call_queue.specs.Waking.{GoesOn, IsWatching, watchers_of}
 use Rattle.hir_call_queue.specs.declared.queue.CallQueue.{CallQueue}
 use Rattle.hir_collector_state.specs.HirCollectorRules.declared.macro_directive.EagerMacro.{EagerMacro}
 use Rattle.hir_collector_state.specs.HirCollectorRules.declared.macro_directive.MacroDirective.{MacroDirective}
