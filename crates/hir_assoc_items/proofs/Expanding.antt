@@ -1,5 +1,7 @@
 -- What is seen of a call that reaches a macro.
-use Rattle.std.proofs.Common.{◌≡◌, ◌∙◌, ◌==◌, ◌⊎◌, ◌<◌, ℕ, true, List, [], ◌∷◌, length, inl, inr, Option, None, Some, Result, Ok, Err, IsErrAnd, refl, sym, ap, subst, arith}
+use Rattle.std.proofs.Common.{◌≡◌, ◌∙◌, ◌==◌, ◌⊎◌, ◌<◌, ℕ, true, List, [], length, inl, inr, Option, None, Some, Result, Ok, Err, IsErrAnd, refl, sym, ap, subst, arith}
+use Rattle.std.proofs.lemmas.Bool.Decides.{nat_tests}
+use Rattle.std.proofs.lemmas.List.{nil_from_length}
 use Rattle.std.specs.Prelude.{IsSome, option_map}
 use Rattle.std.specs.Option.{option_and_then}
 use Rattle.hir_collector_rules.specs.HirIds.declared.ast_id.AstId.{AstId}
@@ -138,9 +140,11 @@ none_unknown tables c paths nothing = subst (λ (ps : List Path). AreKnown table
     known path inner (n, below, at) reached = absurd (let past : n < 0 = below in omega arith)
 
 -- a list that counts as empty is
+zero_long : (n : ℕ) → (n == 0) ≡ true → n ≡ 0
+zero_long n h = grind (arith, nat_tests)
+
 pub none_there : {A : Type 0} (xs : List A) → true ≡ (length xs == 0) → xs ≡ []
-none_there [] h = refl
-none_there (x ∷ xs) h = absurd cc
+none_there xs h = nil_from_length xs (zero_long (length xs) (sym h))
 
 -- ---- refusals of tables
 

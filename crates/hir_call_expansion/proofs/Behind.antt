@@ -342,9 +342,9 @@ when_ok (Ok t) P Q f p = f p
 when_ok (Err e) P Q f p = tt
 
 -- the numbers of a call mean something as tables grow
-pub meant_later : (tables grown : TablesValue) (d : MacroDirective) → KeepsTables tables grown → IsMeantCall tables d → IsMeantCall grown d
-meant_later tables grown d kept meant = record {
-  site = site_kept tables grown kept d.site meant.site;
-  node = source_kept tables grown kept (node_tree d.ast_id) meant.node;
+pub meant_later : (tables bigger : TablesValue) (d : MacroDirective) → KeepsTables tables bigger → IsMeantCall tables d → IsMeantCall bigger d
+meant_later tables bigger d kept meant = record {
+  site = site_kept tables bigger kept d.site meant.site;
+  node = source_kept tables bigger kept (node_tree d.ast_id) meant.node;
   item = meant.item;
 }

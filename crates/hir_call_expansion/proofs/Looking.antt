@@ -32,7 +32,7 @@ use Rattle.hir_collector_state.specs.HirCollectorRules.Keys.{text_at}
 use Rattle.hir_collector_state.specs.HirCollectorRules.ModuleFiles.{Reading}
 use Rattle.hir_collector_state.specs.HirCollectorRules.Moves.{OnceGrown}
 use Rattle.hir_collector_state.specs.HirCollectorRules.NumberedOut.{IsCallNumberedOut, IsNumberedOut, LacksExpansion, at_once, call_out, expansion_by, expansion_out, no_entry}
-use Rattle.hir_collector_state.specs.HirCollectorRules.State.{Core, with_asked}
+use Rattle.hir_collector_state.specs.HirCollectorRules.State.{Core}
 use Rattle.hir_collector_state.specs.HirCollectorRules.Steps.{Sees, keys_read, with_keys}
 use Rattle.hir_collector_state.specs.HirCollectorRules.Workspace.{Workspace, seen_of}
 use Rattle.hir_collector_state.proofs.HirCollectorStart.CallPlaces.{placed_loc}

@@ -670,7 +670,8 @@ impl DefCollector {
         ensures ok { OnOk result (core_in self.new ≡ with_eager (core_in self.old) i seen) }
         ensures noted { OnOk result (IsNoted self.old self.new) }
     {
-        add_at(&mut self.eager, i, seen)
+        add_at(&mut self.eager, i, seen)?;
+        Ok(())
     }
 
     /// What is told of the call at the place where it is left over, or given up.

@@ -1,11 +1,8 @@
 -- A call and what it depends on get numbers, and its expansion is looked up, once the paths that its macro asks for first reach macros.
-use Rattle.std.proofs.Common.{rules, ◌≡◌, ◌∙◌, ◌⊎◌, List, [], Some, Err, ap, subst, sym, inl, inr}
+use Rattle.std.proofs.Common.{rules, ◌≡◌, ◌∙◌, List, [], Some, ap, subst, sym}
 use Rattle.hir_collector_rules.specs.HirBase.ModPath.{Path}
-use Rattle.hir_collector_rules.specs.HirIds.declared.ast_id.EntryId.{EntryId}
 use Rattle.hir_collector_rules.specs.HirIds.declared.ids.Crate.{Crate}
-use Rattle.hir_collector_rules.specs.HirTables.Interning.{IsFull}
 use Rattle.hir_collector_rules.specs.HirTables.SourcePlaces.{ExpansionValue, expansion_value}
-use Rattle.hir_collector_rules.specs.HirTables.Tables.{entry_at}
 use Rattle.hir_collector_rules.proofs.HirTables.Growth.{KeepsTables-refl}
 use Rattle.hir_collector_rules.specs.Calls.{asked_first, call_key, error_of}
 use Rattle.hir_collector_rules.specs.Keys.{environment, input_at, source_in}
@@ -100,8 +97,7 @@ returns-in_default-clause-sees g c =
     (c.in_ok-input.ensures.value ∙ ap (λ (v : Workspace). input_at tables v krate node) after_text) in
     let paths : List Path = c.in_ok-inner.inner in
     let are : paths ≡ asked_first makro (w.entry key) =
-    c.in_ok-inner.ensures.value ∙ ap (asked_first makro) (c.expansion.ensures.value ∙ ap (λ (v : Workspace). v.entry key) after_input) in
-    (
+    c.in_ok-inner.ensures.value ∙ ap (asked_first makro) (c.expansion.ensures.value ∙ ap (λ (v : Workspace). v.entry key) after_input) in (
       paths_later tables w of node makro c.requires.meant of_macro key is paths are,
       subst (λ (ps : List Path). IsSome (first_missing of ps)) c.as_slice-2.ensures.value (c.in_ok-reached.ensures.missing c.in_default.is),
     )

@@ -28,6 +28,9 @@ returns-in_err-look-clause-many g c = λ h.
     subst (λ (n : AstId). HasNoNumber (environment c.look_at_call.new.locations w) (container_view c.args.container.now) n c.args.makro)
     c.node-node.ensures.value (c.in_err-look.ensures.many (search rules))
 
+pub returns-in_err-look-clause-unknown : goal.returns-in_err-look-clause-unknown
+returns-in_err-look-clause-unknown g c = λ h. c.in_err-look.ensures.unknown (search rules)
+
 -- one whose macro asks for a path that reaches nothing is told
 pub tell_missing-requires : goal.tell_missing-requires
 tell_missing-requires g c =
@@ -49,7 +52,7 @@ returns-in-Waits-clause-ok g c =
     taken_waiting tables w of i c.args.path.now makro paths lacking.0 (left_of c.args.left.now.items) (listing_view c.args.found.now)
     (listing_view c.tell_missing.new.found) c.requires.reaches
     (subst (λ (n : AstId). OnceGrown tables w (λ env. paths ≡ inner_paths env of n makro)) c.node-node.ensures.value seen.0) lacking.1
-    (c.in_ok-tell_missing.ensures.ok lacking.0 (ap (first_missing of) c.as_slice.ensures.value ∙ lacking.1))
+    (c.in_ok-tell_missing-in-Waits.ensures.ok lacking.0 (ap (first_missing of) c.as_slice.ensures.value ∙ lacking.1))
 
 pub returns-clause-ok : goal.returns-clause-ok
 returns-clause-ok g c =

@@ -1,5 +1,5 @@
 -- All that the expansion of a call depends on is asked for, and the expansion.
-use Rattle.std.proofs.Common.{◌≡◌, ◌∙◌, ◌++◌, ◌∷◌, [], List, Some, ap, refl, subst, sym}
+use Rattle.std.proofs.Common.{◌≡◌, ◌∙◌, ◌++◌, ◌∷◌, [], List, Some, ap, subst, sym}
 use Rattle.hir_collector_state.specs.HirBase.ModPath.{Path}
 use Rattle.hir_collector_state.specs.HirIds.declared.ast_id.AstId.{AstId}
 use Rattle.hir_collector_state.specs.HirBase.declared.macro_kind.CallStyle.{CallStyle}
@@ -10,8 +10,7 @@ use Rattle.hir_collector_state.specs.HirNameres.WorldParts.{part_of}
 use Rattle.hir_collector_state.specs.HirCollectorRules.declared.source_database.Key.TheVariants as keys
 use Rattle.hir_collector_state.specs.HirCollectorRules.Calls.{asked_first, call_key, call_style, error_of, expansion_of_call, inner_macro, text_readings}
 use Rattle.hir_collector_state.specs.HirCollectorRules.Keys.{environment, input_at, source_in}
-use Rattle.hir_collector_state.specs.HirCollectorRules.Moves.{OnceGrown}
-use Rattle.hir_collector_state.specs.HirCollectorRules.NumberedOut.{LacksExpansion, expansion_by}
+use Rattle.hir_collector_state.specs.HirCollectorRules.NumberedOut.{expansion_by}
 use Rattle.hir_collector_state.specs.HirCollectorRules.State.{Core, core_in, with_asked}
 use Rattle.hir_collector_state.specs.HirCollectorRules.Steps.{keys_read, with_keys}
 use Rattle.hir_collector_state.specs.HirCollectorRules.Workspace.{Workspace}
