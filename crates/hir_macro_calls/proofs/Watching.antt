@@ -1,6 +1,7 @@
 -- A call watches what two paths read, and of a macro that asks for paths first which of them reaches nothing.
-use Rattle.std.proofs.Common.{◌≡◌, ◌∙◌, ℕ, Bool, true, false, List, [], ◌∷◌, ◌++◌, Option, None, Some, Contains, cond, refl, sym, ap, subst, inl, inr, ◌⊎◌, ◌<◌, zero, suc, arith}
+use Rattle.std.proofs.Common.{◌≡◌, ◌∙◌, ◌==◌, ℕ, Bool, true, false, length, List, [], ◌∷◌, ◌++◌, Option, None, Some, Contains, cond, refl, sym, ap, subst, inl, inr, ◌⊎◌, ◌<◌, zero, suc, arith}
 use Rattle.std.specs.List.{All}
+use Rattle.std.specs.Prelude.{IsSome}
 use Rattle.std.proofs.lemmas.List.Elements.{All-append, All-weaker, Contains-append_cases, Contains-append_left, Contains-append_right}
 use Rattle.hir_collector_state.specs.HirBase.ModPath.{Path}
 use Rattle.hir_collector_state.specs.HirIds.declared.ast_id.AstId.{AstId}
@@ -140,3 +141,27 @@ module _ (finished : Maps) (c : Core) (i : ℕ) (d : MacroDirective) where
           let found = missing_among finished c.local c.map d.site.home (asked_before (eager_at c i) makro) path e in
           let by = asked_by (eager_at c i) makro path found.0 in
           vain.lacks_inner makro by.0 path called by.1 by.2 by.3 found.1 refl
+
+  -- it lacks a macro where a path is missing
+  pub lacks_missing : (makro : MacroId) → called_macro finished c.local c.map d ≡ Some makro
+      → IsSome (first_missing finished c.local c.map d.site.home (asked_before (eager_at c i) makro)) → LacksMacro finished c i d
+  lacks_missing makro called some = go (first_missing finished c.local c.map d.site.home (asked_before (eager_at c i) makro)) refl some
+    where
+      go : (o : Option Path) → first_missing finished c.local c.map d.site.home (asked_before (eager_at c i) makro) ≡ o → IsSome o → LacksMacro finished c i d
+      go None e there = absurd (let no : ⊥ = cc in no)
+      go (Some path) e there =
+          let found = missing_among finished c.local c.map d.site.home (asked_before (eager_at c i) makro) path e in
+          let by = asked_by (eager_at c i) makro path found.0 in calls.lacks_inner makro by.0 path called by.1 by.2 by.3 found.1
+
+  -- no path is missing where none was seen
+  pub none_seen : true ≡ (length (eager_at c i) == 0) → missing_at finished c i d ≡ None
+  none_seen h = go (called_macro finished c.local c.map d)
+    where
+      none_there : (es : List EagerMacro) → true ≡ (length es == 0) → es ≡ []
+      none_there [] empty = refl
+      none_there (e ∷ es) empty = absurd cc
+
+      go : (o : Option MacroId) → missing_by finished c i d o ≡ None
+      go None = refl
+      go (Some makro) =
+          ap (λ (es : List EagerMacro). first_missing finished c.local c.map d.site.home (asked_before es makro)) (none_there (eager_at c i) h)
