@@ -411,7 +411,7 @@ def session(seed):
     drawn = Crates(seed)
     crates = drawn.crates(drawn.random.randint(1, 4))
     files, blocks, entries, commands = {}, {}, {}, [{"do": "crates", "crates": copy.deepcopy(crates)}]
-    for key in [(number, number, text, given) for number in range(len(crates)) for text in TEXTS for given in INPUTS]:
+    for key in [(number, number, text, given, ()) for number in range(len(crates)) for text in TEXTS for given in INPUTS]:
         if drawn.random.random() < 0.7:
             entries[key] = drawn.expansion_of()
             commands.append(entry(key, entries[key]))

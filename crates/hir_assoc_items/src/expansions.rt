@@ -10,7 +10,7 @@ ghost use Rattle.hir_collector_rules.specs.HirTables.Interning.{IsFull};
 ghost use Rattle.hir_collector_rules.specs.HirTables.SourcePlaces.{expansion_value};
 ghost use Rattle.hir_collector_rules.specs.HirTables.Tables.{KeepsTables, call_at, entry_at, source_of};
 ghost use Rattle.hir_collector_rules.specs.HirNameres.DefMaps.{maps_of};
-ghost use Rattle.hir_collector_rules.specs.Calls.{AreCallsPlaced, asked_first, call_key, call_tree, error_of, expansion_of_call};
+ghost use Rattle.hir_collector_rules.specs.Calls.{AreCallsPlaced, asked_first, call_key, call_tree, error_of, expansion_of_call, text_by};
 ghost use Rattle.hir_collector_rules.specs.Keys.{IsMeant, environment, node_tree, source_in};
 ghost use Rattle.hir_collector_rules.specs.Workspace.{entry_look};
 ghost use Rattle.hir_assoc_items.specs.AssocItems.{HasNoNumber, IsUnknown, call_loc, exported_name, first_missing, macro_called, macro_text, texts_reached};
@@ -160,6 +160,28 @@ fn macro_text<D: SourceDatabase>(
     }
 }
 
+/// A macro with its text, as keys of expansions have it.
+fn told_text<D: SourceDatabase>(
+    alloc: Global,
+    db: &mut D,
+    maps: DefMaps<'_>,
+    locations: &Tables,
+    makro: MacroId,
+) -> Result<MacroText, AllocError>
+    ensures value { IfOk result (λ text. text ≡ text_by (record {
+      makro = makro;
+      text =
+          macro_text (environment locations.now (D.workspace db.old)) (maps_of maps.entry) makro;
+    })) }
+    ensures same { D.workspace db.new ≡ D.workspace db.old }
+{
+    let text = macro_text(alloc, db, maps, locations, makro)?;
+    Ok(MacroText {
+        krate: makro.module().map.krate,
+        text: or_empty(alloc, text)?,
+    })
+}
+
 /// What a call expands to.
 #[derive(Drop)]
 pub struct Expansion {
@@ -195,11 +217,8 @@ fn texts_reached<D: SourceDatabase>(
         if !is_meant(locations, makro) {
             return Err(AssocItemsError::UnknownSource);
         }
-        let text = macro_text(alloc, db, container.maps, locations, makro)?;
-        texts.push(MacroText {
-            krate: makro.module().map.krate,
-            text: or_empty(alloc, text)?,
-        })?;
+        let told = told_text(alloc, db, container.maps, locations, makro)?;
+        texts.push(told)?;
     }
     Ok(Some(texts))
 }

@@ -1,5 +1,5 @@
 //! The walk over the list of a trait or an impl, after rust-analyzer's `AssocItemCollector`.
-ghost use Rattle.std.specs.Prelude.{◌≡◌, ◌<◌, IfOk, IsSome, OnOk, Some, map};
+ghost use Rattle.std.specs.Prelude.{◌≡◌, ◌<◌, IfOk, IsSome, OnOk, Some, map, option_map};
 ghost use Rattle.hir_collector_rules.specs.HirBase.ModPath.{Path};
 ghost use Rattle.hir_collector_rules.specs.HirBase.Cfg.{cfg_view};
 ghost use Rattle.hir_collector_rules.specs.HirTables.Tables.{KeepsTables, source_of};
@@ -97,6 +97,20 @@ fn tell_unresolved(
     Ok(())
 }
 
+/// The first of paths that reaches nothing.
+fn first_missing<'p>(container: &Container<'_>, paths: &'p [ModPath]) -> Option<&'p ModPath>
+    ensures value { option_map (λ path. path.now) result ≡ first_missing (container_view container.now) paths.now }
+{
+    let mut left = paths;
+    'next: while let [path, others @ ..] = left {
+        if container.called_macro(path).is_none() {
+            return Some(path);
+        }
+        left = others;
+    }
+    None
+}
+
 /// Tells a call whose macro asks for paths first, for the first of them that reaches nothing.
 fn tell_missing(
     container: &Container<'_>,
@@ -105,16 +119,13 @@ fn tell_missing(
     found: &mut Listing,
 ) -> Result<(), AllocError>
     requires missing { IsSome (first_missing (container_view container.now) paths.now) }
-    ensures ok { (path : Path) → first_missing (container_view container.now) paths.now ≡ Some path → OnOk result
-        (listing_view found.new ≡ followed_by (listing_view found.old) (unresolved (container_view container.now) (written_view item.now) path)) }
+    ensures ok { OnOk result ((path : Path) → first_missing (container_view container.now) paths.now ≡ Some path
+        → listing_view found.new ≡ followed_by (listing_view found.old) (unresolved (container_view container.now) (written_view item.now) path)) }
 {
-    let mut left = paths;
-    'next: while let [path, others @ ..] = left {
-        if container.called_macro(path).is_none() {
-            return tell_unresolved(container, item, path, found);
-        }
-        left = others;
-    }
+    let Some(path) = first_missing(container, paths) else {
+        return Ok(());
+    };
+    tell_unresolved(container, item, path, found)?;
     Ok(())
 }
 
@@ -175,14 +186,15 @@ fn expand<D: SourceDatabase>(
     ensures unknown { result ≡ Err AssocItemsError.UnknownSource → IsUnknown locations.new (container_view container.now) makro }
 {
     let node = item.node();
-    let Expansion { id, error, source } =
-        match look_at_call(alloc, db, container, locations, node, makro)? {
-            CallLook::Expands(expansion) => expansion,
-            CallLook::Waits(inner) => {
-                tell_missing(container, item, inner.as_slice(), found)?;
-                return Ok(());
-            }
-        };
+    let look = look_at_call(alloc, db, container, locations, node, makro)?;
+    let expansion = match look {
+        CallLook::Expands(expansion) => expansion,
+        CallLook::Waits(inner) => {
+            tell_missing(container, item, inner.as_slice(), found)?;
+            return Ok(());
+        }
+    };
+    let Expansion { id, error, source } = expansion;
     enter(container, node, id, path, error, found)?;
     let mut inside = of_tree(alloc, call_tree(id), item.level + 1, source.tree())?;
     inside.reverse();

@@ -32,7 +32,7 @@ use Rattle.hir_collector_state.specs.HirCollectorRules.Keys.{text_at}
 use Rattle.hir_collector_state.specs.HirCollectorRules.ModuleFiles.{Reading}
 use Rattle.hir_collector_state.specs.HirCollectorRules.Moves.{OnceGrown}
 use Rattle.hir_collector_state.specs.HirCollectorRules.NumberedOut.{IsCallNumberedOut, IsNumberedOut, LacksExpansion, at_once, call_out, expansion_by, expansion_out, no_entry}
-use Rattle.hir_collector_state.specs.HirCollectorRules.State.{Core, with_asked}
+use Rattle.hir_collector_state.specs.HirCollectorRules.State.{Core}
 use Rattle.hir_collector_state.specs.HirCollectorRules.Steps.{Sees, keys_read, with_keys}
 use Rattle.hir_collector_state.specs.HirCollectorRules.Workspace.{Workspace, seen_of}
 use Rattle.hir_collector_state.proofs.HirCollectorStart.CallPlaces.{placed_loc}
@@ -55,23 +55,9 @@ pub Sees-append : (env : Environment) (finished : Maps) (xs ys : List Reading) �
 Sees-append env finished [] ys p q = q
 Sees-append env finished (x ∷ xs) ys p q = (p.0, Sees-append env finished xs ys p.1 q)
 
--- the text of a macro that asks for no paths first was asked for, and then the input, the expansion and its items
-module _ (y : Expanding) where
-  abbrev alone : Expanding
-  alone = record y { grown = None }
-
-  pub asked_all : (c text input entry tree : Core) (own : Crate) (d : MacroDirective) (makro : MacroId)
-      → text ≡ record c { asked = with_keys c.asked (keys_read (text_readings makro alone.text)) } → input ≡ with_asked text (keys.Input own d.ast_id) → entry
-      ≡ with_asked input (keys.Expansion alone.entry)
-      → tree ≡ with_asked entry (keys.Tree (call_key own alone.id))
-      → tree ≡ record c { asked = with_keys c.asked (keys_read (text_readings makro alone.text ++ expansion_readings own d alone)) }
-  asked_all c text input entry tree own d makro first second third fourth =
-      let behind : List Key = keys_read (expansion_readings own d alone) in
-      fourth
-      ∙ ap (λ (e : Core). with_asked e (keys.Tree (call_key own alone.id))) (third ∙ ap (λ (e : Core). with_asked e (keys.Expansion alone.entry))
-      (second ∙ ap (λ (e : Core). with_asked e (keys.Input own d.ast_id)) first))
-      ∙ ap (λ (ks : List Key). record c { asked = ks }) (sym (with_keys-append c.asked (keys_read (text_readings makro alone.text)) behind))
-      ∙ ap (λ (ks : List Key). record c { asked = with_keys c.asked ks }) (sym (keys_read-append (text_readings makro alone.text) (expansion_readings own d alone)))
+-- what is seen of a call whose macro asks for no paths first
+abbrev pub alone : Expanding → Expanding
+alone y = record y { grown = None }
 
 -- ---- numbers
 
@@ -82,6 +68,24 @@ pub source_of_call : (tables : TablesValue) (id : MacroCallId) (loc : MacroCallL
 source_of_call tables id loc key call entry =
     ap (λ (o : Option MacroCallLoc). option_map expansion (option_and_then (λ (l : MacroCallLoc). entry_at tables l.entry) o)) call ∙ ap
     (λ (o : Option ExpansionValue). option_map expansion o) entry
+
+-- the text of a macro that was looked up is there, and stays as tables grow
+pub sees_text : (first : TablesValue) (w : Workspace) (finished : Maps) (m : Map) (makro : MacroId) (text : Option (List ℕ)) → IsMeant first makro
+    → text ≡ called_text finished m makro (text_at first w makro)
+    → (grown : TablesValue) → KeepsTables first grown → (maps : Maps)
+    → Sees (environment grown w) maps (text_readings makro text)
+sees_text first w finished m (macros.Macro2Id id) text there is grown k maps =
+    (looks_stand first grown w maps (keys.Text (macros.Macro2Id id)) k there ∙ ap of_text (sym is), tt)
+sees_text first w finished m (macros.MacroRulesId id) text there is grown k maps =
+    (looks_stand first grown w maps (keys.Text (macros.MacroRulesId id)) k there ∙ ap of_text (sym is), tt)
+sees_text first w finished m (macros.ProcMacroId id) text there is grown k maps = tt
+
+-- that of a procedural macro is its name
+pub text_of_it : (finished : Maps) (m : Map) (makro : MacroId) (text found : Option (List ℕ)) → text ≡ called_text finished m makro found
+    → IsTextOf finished m makro text
+text_of_it finished m (macros.Macro2Id id) text found is = tt
+text_of_it finished m (macros.MacroRulesId id) text found is = tt
+text_of_it finished m (macros.ProcMacroId id) text found is = is
 
 module _ (first second tables : TablesValue) (w : Workspace) (finished : Maps) (c new : Core) (d : MacroDirective) (makro : MacroId) (y : Expanding) (source : SourceTreeValue)
     (before : KeepsTables first second) (after : KeepsTables second tables) (meant : IsMeantCall first d) (of_macro : IsMeant first makro) where
@@ -100,21 +104,6 @@ module _ (first second tables : TablesValue) (w : Workspace) (finished : Maps) (
   numbered : entry_at second x.entry ≡ Some key → call_at tables x.id ≡ Some (call_loc d x.entry) → IsNumberedCall tables own d makro x
   numbered entry call = record { meant = macro_kept first tables kept makro of_macro; entry = after.entries x.entry.0 key entry; call = call; first = tt }
 
-  sees_text : (makro : MacroId) → IsMeant first makro → x.text ≡ called_text finished c.map makro (text_at first w makro) → (grown : TablesValue)
-      → KeepsTables tables grown → (maps : Maps)
-      → Sees (environment grown w) maps (text_readings makro x.text)
-  sees_text (macros.Macro2Id id) there is grown k maps =
-      (looks_stand first grown w maps (keys.Text (macros.Macro2Id id)) (KeepsTables-trans first tables grown kept k) there ∙ ap of_text (sym is), tt)
-  sees_text (macros.MacroRulesId id) there is grown k maps =
-      (looks_stand first grown w maps (keys.Text (macros.MacroRulesId id)) (KeepsTables-trans first tables grown kept k) there ∙ ap of_text (sym is), tt)
-  sees_text (macros.ProcMacroId id) there is grown k maps = tt
-
-  -- that of a procedural macro is its name
-  text_of_it : (makro : MacroId) → x.text ≡ called_text finished c.map makro (text_at first w makro) → IsTextOf finished c.map makro x.text
-  text_of_it (macros.Macro2Id id) is = tt
-  text_of_it (macros.MacroRulesId id) is = tt
-  text_of_it (macros.ProcMacroId id) is = is
-
   pub sees_call : asked_first makro x.there ≡ [] → entry_at second x.entry ≡ Some key → call_at tables x.id ≡ Some (call_loc d x.entry) → x.text ≡ called_text finished c.map makro
       (text_at first w makro) → x.input ≡ input_at first w own d.ast_id
       → x.there ≡ w.entry key → x.tree ≡ seen_of source → source ≡ source_in tables w (call_key own x.id)
@@ -124,11 +113,11 @@ module _ (first second tables : TablesValue) (w : Workspace) (finished : Maps) (
       let at_last : IsNumberedCall tables own d makro x = numbered entry call in
       let place : source_of tables (call_tree x.id) ≡ Some (expansion key) = source_of_call tables x.id (call_loc d x.entry) key call at_last.entry in
       record {
-        text = text_of_it makro text;
+        text = text_of_it finished c.map makro x.text (text_at first w makro) text;
         first = nothing;
         numbered = λ grown k. call_kept tables grown k own d makro x at_last;
         sees = λ grown k maps.
-            Sees-append (environment grown w) maps (text_readings makro x.text) (expansion_readings own d x) (sees_text makro of_macro text grown k maps) (
+            Sees-append (environment grown w) maps (text_readings makro x.text) (expansion_readings own d x) (sees_text first w finished c.map makro x.text of_macro text grown (KeepsTables-trans first tables grown kept k) maps) (
               looks_stand first grown w maps (keys.Input own d.ast_id) (KeepsTables-trans first tables grown kept k) meant.node ∙ ap of_input (sym input),
               (
                 ap (λ (o : Option ExpansionValue). of_entry (entry_under w o)) (k.entries x.entry.0 key at_last.entry) ∙ ap of_entry (sym there),
@@ -154,7 +143,7 @@ module _ (first tables : TablesValue) (w : Workspace) (finished : Maps) (local :
   key_at_first = expansion_by (environment first w) finished m d makro
 
   -- the macro's text and the call's input stay as tables grow
-  expansion_stays : (grown : TablesValue) → KeepsTables tables grown → expansion_by (environment grown w) finished m d makro ≡ key_at_first
+  pub expansion_stays : (grown : TablesValue) → KeepsTables tables grown → expansion_by (environment grown w) finished m d makro ≡ key_at_first
   expansion_stays grown k =
       let all : KeepsTables first grown = KeepsTables-trans first tables grown kept k in
       let text : of_text (text_at grown w makro) ≡ of_text (text_at first w makro) = looks_stand first grown w finished (keys.Text makro) all of_macro in
@@ -177,7 +166,7 @@ module _ (first tables : TablesValue) (w : Workspace) (finished : Maps) (local :
       ∙ ap (λ (t : Option (List ℕ)). expansion_of_call m.id.krate (call_style d) makro t input) text_is
       ∙ ap (λ (i : Option (List ℕ)). expansion_of_call m.id.krate (call_style d) makro (called_text finished m makro (text_at first w makro)) i) input_is
 
-  meant_still : (grown : TablesValue) → KeepsTables tables grown → IsMeant grown makro
+  pub meant_still : (grown : TablesValue) → KeepsTables tables grown → IsMeant grown makro
   meant_still grown k = macro_kept first grown (KeepsTables-trans first tables grown kept k) makro of_macro
 
   -- the expansion can't get a number

@@ -1,5 +1,5 @@
 -- What is found of a call that reaches a macro?
-use Rattle.std.specs.Prelude.{◌≡◌, ◌⊎◌, IsSome, List, Option, Some, map}
+use Rattle.std.specs.Prelude.{◌≡◌, ◌⊎◌, IsSome, List, Some, map}
 use Rattle.std.specs.List.{All}
 use Rattle.hir_collector_state.specs.HirBase.ModPath.{Path}
 use Rattle.hir_collector_state.specs.HirIds.declared.ast_id.EntryId.{EntryId}

@@ -272,8 +272,11 @@ fn texts_of<D: SourceDatabase>(
     locations: &Tables,
     macros: &[MacroId],
 ) -> Result<Vec<MacroText>, AllocError>
-    ensures value { IfOk result (λ texts. texts.items ≡ map (λ makro. text_by (record { makro = makro; text =
-        called_text (part_of world.entry) (core_in run.now).map makro (text_at locations.now (D.workspace db.old) makro) })) macros.now) }
+    ensures value { IfOk result (λ texts. texts.items ≡ map (λ makro. text_by (record {
+      makro = makro;
+      text =
+          called_text (part_of world.entry) (core_in run.now).map makro (text_at locations.now (D.workspace db.old) makro);
+    })) macros.now) }
     ensures same { D.workspace db.new ≡ D.workspace db.old }
 {
     let alloc = run.allocator();

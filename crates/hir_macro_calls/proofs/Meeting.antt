@@ -1,11 +1,11 @@
 -- A try in which a call met an eager macro leaves all else, and what other calls wait for.
-use Rattle.std.proofs.Common.{◌≡◌, ◌∙◌, ℕ, List, Contains, refl, sym, ap, subst}
+use Rattle.std.proofs.Common.{◌≡◌, ◌∙◌, ℕ, List, Contains, sym, ap, subst}
 use Rattle.hir_collector_state.specs.HirDefMapRules.Overlay.{Maps}
 use Rattle.hir_collector_state.specs.HirImportRules.Rest.{IsAtRest}
 use Rattle.hir_collector_state.specs.HirCollectorRules.declared.macro_directive.EagerMacro.{EagerMacro}
 use Rattle.hir_collector_state.specs.HirCollectorRules.declared.macro_directive.MacroDirective.{MacroDirective}
 use Rattle.hir_collector_state.specs.HirCollectorRules.declared.source_database.Key.{Key}
-use Rattle.hir_collector_state.specs.HirCollectorRules.CallMoves.{NoneWaits, OnlyMeets}
+use Rattle.hir_collector_state.specs.HirCollectorRules.CallMoves.{OnlyMeets}
 use Rattle.hir_collector_state.specs.HirCollectorRules.Calls.{IsWaiting, LacksMacro, LeadsNowhere, lacks_inner, reaches_none}
 use Rattle.hir_collector_state.specs.HirCollectorRules.Keys.{Environment}
 use Rattle.hir_collector_state.specs.HirCollectorRules.State.{Core, at_rest, eager_among, eager_at, import_state}
@@ -65,7 +65,8 @@ module _ {env : Environment} {finished : Maps} (old new : Core) (meets : OnlyMee
       (nowhere_met finished old meets.eager meets.asked meets.count
       (λ j e known. subst (λ (c : Core). Contains (eager_at c j) e) meets.is ((keeps_eager steps).seen j e known)) i h)
 
-  -- imports rest still
-  pub rests_still : IsAtRest finished (import_state (at_rest old)) → IsAtRest finished (import_state (at_rest new))
-  rests_still rest =
-      subst (λ (c : Core). IsAtRest finished (import_state (at_rest c))) (sym meets.is) (rests_met finished old meets.eager meets.asked meets.count rest)
+-- imports rest still
+pub rests_still : (finished : Maps) (old new : Core) → OnlyMeets old new → IsAtRest finished (import_state (at_rest old))
+    → IsAtRest finished (import_state (at_rest new))
+rests_still finished old new meets rest =
+    subst (λ (c : Core). IsAtRest finished (import_state (at_rest c))) (sym meets.is) (rests_met finished old meets.eager meets.asked meets.count rest)

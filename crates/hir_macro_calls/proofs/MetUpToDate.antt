@@ -1,5 +1,5 @@
 -- A queue that was up to date is so still where a call met an eager macro.
-use Rattle.std.proofs.Common.{◌≡◌, ℕ, Contains, List, Option, Some, subst, sym}
+use Rattle.std.proofs.Common.{ℕ, Contains, List, Option, Some, subst, sym}
 use Rattle.hir_collector_state.specs.HirDefMapRules.Overlay.{Maps}
 use Rattle.hir_collector_state.specs.HirNameres.declared.nameres.path_resolution.slots.Slot.{Slot as PathSlot}
 use Rattle.hir_call_queue.specs.declared.queue.CallQueue.{CallQueue}

@@ -155,7 +155,7 @@ module _ (env : Environment) (finished : Maps) (old : Core) where
       → ((i : ℕ) → LeadsNowhere finished (at_rest tried) i) → new ≡ tried → NoneWaits tried
       → ComesToRest env finished old new false
   rests_idle settled tried new rest meets nowhere stays none =
-      rested (subst (λ (c : Core). IsAtRest finished (import_state (at_rest c))) (sym stays) (rests_still {env = env} settled tried meets rest))
+      rested (subst (λ (c : Core). IsAtRest finished (import_state (at_rest c))) (sym stays) (rests_still finished settled tried meets rest))
       (λ i. subst (λ (c : Core). LeadsNowhere finished (at_rest c) i) (sym stays) (nowhere i))
       (subst NoneWaits (sym stays) none)
 

@@ -1,6 +1,9 @@
 -- A call watches what two paths read, and of a macro that asks for paths first which of them reaches nothing.
-use Rattle.std.proofs.Common.{◌≡◌, ◌∙◌, ℕ, Bool, true, false, List, [], ◌∷◌, ◌++◌, Option, None, Some, Contains, cond, refl, sym, ap, subst, inl, inr, ◌⊎◌, ◌<◌, zero, suc, arith}
+use Rattle.std.proofs.Common.{◌≡◌, ◌∙◌, ◌==◌, ℕ, Bool, true, false, length, List, [], ◌∷◌, ◌++◌, Option, None, Some, Contains, cond, refl, sym, ap, subst, inl, inr, ◌<◌, zero, suc, arith}
 use Rattle.std.specs.List.{All}
+use Rattle.std.specs.Prelude.{IsSome}
+use Rattle.std.proofs.lemmas.Bool.Decides.{nat_tests}
+use Rattle.std.proofs.lemmas.List.{nil_from_length}
 use Rattle.std.proofs.lemmas.List.Elements.{All-append, All-weaker, Contains-append_cases, Contains-append_left, Contains-append_right}
 use Rattle.hir_collector_state.specs.HirBase.ModPath.{Path}
 use Rattle.hir_collector_state.specs.HirIds.declared.ast_id.AstId.{AstId}
@@ -11,7 +14,7 @@ use Rattle.hir_collector_state.specs.HirImportRules.Changed.{IsThere}
 use Rattle.hir_collector_state.specs.HirNameres.declared.nameres.path_resolution.slots.Slot.{Slot as PathSlot}
 use Rattle.hir_worklist.specs.Watching.{is_watching}
 use Rattle.hir_import_resolution.specs.Inner.Queue.{slot_cmp}
-use Rattle.hir_call_queue.specs.Waking.{GoesOn, IsWatching, is_apart, watchers_of, worklist_of}
+use Rattle.hir_call_queue.specs.Waking.{GoesOn, IsWatching, watchers_of}
 use Rattle.hir_call_queue.specs.declared.queue.CallQueue.{CallQueue}
 use Rattle.hir_collector_state.specs.HirCollectorRules.declared.macro_directive.EagerMacro.{EagerMacro}
 use Rattle.hir_collector_state.specs.HirCollectorRules.declared.macro_directive.MacroDirective.{MacroDirective}
@@ -57,18 +60,22 @@ watching_both modules few more item i a b c first then_ = record {
 pub asked_by : (es : List EagerMacro) (makro : MacroId) (path : Path) → Contains (asked_before es makro) path
     → (e : EagerMacro) × Contains es e × (is_same_macro e.makro makro ≡ true) × Contains e.inner path
 asked_by [] makro path (n, below, is) = let past : n < 0 = below in absurd (omega arith)
-asked_by (e ∷ es) makro path h = go (is_same_macro e.makro makro) refl h
+asked_by (e ∷ es) makro path h = go (is_same_macro e.makro makro) refl (asked_by es makro path) h
   where
-    later : Contains (asked_before es makro) path → (f : EagerMacro) × Contains (e ∷ es) f × (is_same_macro f.makro makro ≡ true) × Contains f.inner path
-    later among = let found = asked_by es makro path among in (found.0, Contains-append_right (e ∷ []) es found.0 found.1, found.2, found.3)
-
-    go : (b : Bool) → is_same_macro e.makro makro ≡ b → Contains (cond b (e.inner ++ asked_before es makro) (asked_before es makro)) path
+    later : (f : EagerMacro) × Contains es f × (is_same_macro f.makro makro ≡ true) × Contains f.inner path
         → (f : EagerMacro) × Contains (e ∷ es) f × (is_same_macro f.makro makro ≡ true) × Contains f.inner path
-    go true same among = elim (Contains-append_cases e.inner (asked_before es makro) path among) [
+    later found = (found.0, Contains-append_right (e ∷ []) es found.0 found.1, found.2, found.3)
+
+    go : (b : Bool) → is_same_macro e.makro makro ≡ b
+        → (Contains (asked_before es makro) path
+        → (f : EagerMacro) × Contains es f × (is_same_macro f.makro makro ≡ true) × Contains f.inner path)
+        → Contains (cond b (e.inner ++ asked_before es makro) (asked_before es makro)) path
+        → (f : EagerMacro) × Contains (e ∷ es) f × (is_same_macro f.makro makro ≡ true) × Contains f.inner path
+    go true same rest among = elim (Contains-append_cases e.inner (asked_before es makro) path among) [
       | inl own ↦ (e, (0, omega arith, refl), same, own)
-      | inr others ↦ later others
+      | inr others ↦ later (rest others)
     ]
-    go false same among = later among
+    go false same rest among = later (rest among)
 
 -- and the other way round
 among_asked : (es : List EagerMacro) (makro : MacroId) (e : EagerMacro) (path : Path) → Contains es e → is_same_macro e.makro makro ≡ true
@@ -78,43 +85,45 @@ among_asked (x ∷ xs) makro e path (zero, below, is) same among =
     subst (λ (b : Bool). Contains (cond b (x.inner ++ asked_before xs makro) (asked_before xs makro)) path)
     (sym (subst (λ (y : EagerMacro). is_same_macro y.makro makro ≡ true) (sym is) same))
     (Contains-append_left x.inner (asked_before xs makro) path (subst (λ (y : EagerMacro). Contains y.inner path) (sym is) among))
-among_asked (x ∷ xs) makro e path (suc n, below, is) same among = go (is_same_macro x.makro makro)
+among_asked (x ∷ xs) makro e path (suc n, below, is) same among =
+    go (is_same_macro x.makro makro) (among_asked xs makro e path (n, omega (arith, below), is) same among)
   where
-    behind : Contains (asked_before xs makro) path
-    behind = among_asked xs makro e path (n, omega (arith, below), is) same among
-
-    go : (b : Bool) → Contains (cond b (x.inner ++ asked_before xs makro) (asked_before xs makro)) path
-    go true = Contains-append_right x.inner (asked_before xs makro) path behind
-    go false = behind
+    go : (b : Bool) → Contains (asked_before xs makro) path → Contains (cond b (x.inner ++ asked_before xs makro) (asked_before xs makro)) path
+    go true behind = Contains-append_right x.inner (asked_before xs makro) path behind
+    go false behind = behind
 
 -- the first of some paths that reaches nothing is one of them, and reaches nothing
 module _ (finished : Maps) (local : Local) (m : Map) (home : ℕ) where
   pub missing_among : (paths : List Path) (path : Path) → first_missing finished local m home paths ≡ Some path
       → Contains paths path × (inner_macro finished local m home path ≡ None)
   missing_among [] path e = absurd (let no : ⊥ = cc in no)
-  missing_among (p ∷ ps) path e = go (inner_macro finished local m home p) refl e
+  missing_among (p ∷ ps) path e = go (inner_macro finished local m home p) refl (missing_among ps path) e
     where
-      go : (o : Option MacroId) → inner_macro finished local m home p ≡ o → or_missing p o (first_missing finished local m home ps) ≡ Some path
+      go : (o : Option MacroId) → inner_macro finished local m home p ≡ o
+          → (first_missing finished local m home ps ≡ Some path → Contains ps path × (inner_macro finished local m home path ≡ None))
+          → or_missing p o (first_missing finished local m home ps) ≡ Some path
           → Contains (p ∷ ps) path × (inner_macro finished local m home path ≡ None)
-      go None none is = let same : p ≡ path = cc in (
+      go None none rest is = let same : p ≡ path = cc in (
         (0, omega arith, same),
         subst (λ (x : Path). inner_macro finished local m home x ≡ None) same none,
       )
-      go (Some makro) some is = let found = missing_among ps path is in (Contains-append_right (p ∷ []) ps path found.0, found.1)
+      go (Some makro) some rest is = let found = rest is in (Contains-append_right (p ∷ []) ps path found.0, found.1)
 
   -- and where one of them does, there is a first
   pub some_missing : (paths : List Path) (path : Path) → Contains paths path → inner_macro finished local m home path ≡ None
       → first_missing finished local m home paths ≡ None → ⊥
   some_missing [] path (n, below, is) none e = let past : n < 0 = below in omega arith
-  some_missing (p ∷ ps) path among none e = go (inner_macro finished local m home p) refl e among
+  some_missing (p ∷ ps) path among none e =
+      go (inner_macro finished local m home p) refl e (λ later gone. some_missing ps path later none gone) among
     where
       go : (o : Option MacroId) → inner_macro finished local m home p ≡ o → or_missing p o (first_missing finished local m home ps) ≡ None
+          → (Contains ps path → first_missing finished local m home ps ≡ None → ⊥)
           → Contains (p ∷ ps) path → ⊥
-      go None here is h = let no : ⊥ = cc in no
-      go (Some makro) here is (zero, below, same) =
+      go None here is rest h = let no : ⊥ = cc in no
+      go (Some makro) here is rest (zero, below, same) =
           let both : inner_macro finished local m home p ≡ None = subst (λ (x : Path). inner_macro finished local m home x ≡ None) (sym same) none in
           let no : ⊥ = cc in no
-      go (Some makro) here is (suc n, below, same) = some_missing ps path (n, omega (arith, below), same) none is
+      go (Some makro) here is rest (suc n, below, same) = rest (n, omega (arith, below), same) is
 
 -- what it has read, it has read in vain
 module _ (finished : Maps) (c : Core) (i : ℕ) (d : MacroDirective) where
@@ -140,3 +149,27 @@ module _ (finished : Maps) (c : Core) (i : ℕ) (d : MacroDirective) where
           let found = missing_among finished c.local c.map d.site.home (asked_before (eager_at c i) makro) path e in
           let by = asked_by (eager_at c i) makro path found.0 in
           vain.lacks_inner makro by.0 path called by.1 by.2 by.3 found.1 refl
+
+  -- it lacks a macro where a path is missing
+  pub lacks_missing : (makro : MacroId) → called_macro finished c.local c.map d ≡ Some makro
+      → IsSome (first_missing finished c.local c.map d.site.home (asked_before (eager_at c i) makro)) → LacksMacro finished c i d
+  lacks_missing makro called some = go (first_missing finished c.local c.map d.site.home (asked_before (eager_at c i) makro)) refl some
+    where
+      go : (o : Option Path) → first_missing finished c.local c.map d.site.home (asked_before (eager_at c i) makro) ≡ o → IsSome o → LacksMacro finished c i d
+      go None e there = absurd (let no : ⊥ = cc in no)
+      go (Some path) e there =
+          let found = missing_among finished c.local c.map d.site.home (asked_before (eager_at c i) makro) path e in
+          let by = asked_by (eager_at c i) makro path found.0 in calls.lacks_inner makro by.0 path called by.1 by.2 by.3 found.1
+
+  -- no path is missing where none was seen
+  pub none_seen : true ≡ (length (eager_at c i) == 0) → missing_at finished c i d ≡ None
+  none_seen h = go (called_macro finished c.local c.map d)
+    where
+      zero_long : (n : ℕ) → (n == 0) ≡ true → n ≡ 0
+      zero_long n e = grind (arith, nat_tests)
+
+      go : (o : Option MacroId) → missing_by finished c i d o ≡ None
+      go None = refl
+      go (Some makro) =
+          ap (λ (es : List EagerMacro). first_missing finished c.local c.map d.site.home (asked_before es makro))
+          (nil_from_length (eager_at c i) (zero_long (length (eager_at c i)) (sym h)))

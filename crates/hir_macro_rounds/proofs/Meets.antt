@@ -36,21 +36,23 @@ module _ (tables : TablesValue) (w : Workspace) (finished : Maps) (c asked : Cor
   lacks : Contains paths first.0 × (inner_macro finished c.local c.map d.site.home first.0 ≡ None)
   lacks = missing_among finished c.local c.map d.site.home paths first.0 first.1
 
-  module _ (met new : Core) (meets : met ≡ with_eager asked i (record { makro = makro; inner = paths })) (ticks : new ≡ counted met) where
+  module _ (new : Core) (meets : new ≡ counted (with_eager asked i (record { makro = makro; inner = paths }))) where
+    abbrev met : Core
+    met = with_eager asked i (record { makro = makro; inner = paths })
+
     pub meets_steps : OnceGrown tables w (λ env. Steps env finished (at_rest c) (at_rest new))
     meets_steps = λ grown kept.
-        Steps-one (calls.meets_step tables w finished c asked met new i d makro x sees called shallow first.0 lacks.0 lacks.1 meets ticks grown kept)
+        Steps-one (calls.meets_step tables w finished c asked met new i d makro x sees called shallow first.0 lacks.0 lacks.1 refl meets grown kept)
 
     pub meets_left : i < length c.eager → TriesCall finished c new i false
     meets_left inside =
-        left (calls.only_meets tables w finished c asked met new i d makro x sees called shallow first.0 lacks.0 lacks.1 meets ticks)
-        (calls.meets_nowhere tables w finished c asked met new i d makro x sees called shallow first.0 lacks.0 lacks.1 meets ticks inside (macro_laws.refl makro))
+        left (calls.only_meets tables w finished c asked met new i d makro x sees called shallow first.0 lacks.0 lacks.1 refl meets)
+        (calls.meets_nowhere tables w finished c asked met new i d makro x sees called shallow first.0 lacks.0 lacks.1 refl meets inside (macro_laws.refl makro))
 
   -- as many steps as are counted were taken already
-  pub meets_too_far : (met : Core) → met ≡ with_eager asked i (record { makro = makro; inner = paths }) → STEP_LIMIT ≤ met.count
-      → OnceGrown tables w (λ env. IsSpent env finished (at_rest c))
-  meets_too_far met meets full = λ grown kept.
-      let same : met.count ≡ c.count = ap (λ (k : Core). k.count) meets ∙ ap (λ (k : Core). k.count) sees.asked in
+  pub meets_too_far : STEP_LIMIT ≤ asked.count → OnceGrown tables w (λ env. IsSpent env finished (at_rest c))
+  meets_too_far full = λ grown kept.
+      let same : asked.count ≡ c.count = ap (λ (k : Core). k.count) sees.asked in
       calls.past_rule (environment grown w) finished c (meets_macro i d makro x)
       (record { called = called; shallow = shallow; text = sees.text; path = first.0; asked = lacks.0; missing = lacks.1 })
       (sees.sees grown kept finished) (sees.numbered grown kept) (subst (λ (n : ℕ). STEP_LIMIT ≤ n) same full)

@@ -19,10 +19,10 @@ ghost use Rattle.hir_mod_collector.specs.HirCollectorRules.Derivation.{IsSpent};
 ghost use Rattle.hir_mod_collector.specs.HirCollectorRules.Keys.{Environment, IsMeant, environment};
 ghost use Rattle.hir_mod_collector.specs.HirCollectorRules.Moves.{OnceGrown};
 ghost use Rattle.hir_mod_collector.specs.HirCollectorRules.UnknownSources.{LeadsToUnknownSource, ReachesUnknownSource};
-ghost use Rattle.hir_mod_collector.specs.HirCollectorRules.State.{Run, at_rest, core_in, import_state};
+ghost use Rattle.hir_mod_collector.specs.HirCollectorRules.State.{Run, at_rest, core_in, counted, import_state, with_eager};
 ghost use Rattle.hir_mod_collector.specs.HirCollectorRules.Steps.{CallsMacro, IsDue, Steps};
 ghost use Rattle.hir_mod_collector.specs.HirCollectorImports.Waiting.{IsBehind, IsBetweenPasses, IsGathered, IsStale, IsUpToDate, KeepsApart, LiesApart};
-ghost use Rattle.hir_mod_collector.specs.HirCollectorState.Waiting.{IsNotedBeside, NotesSlots};
+ghost use Rattle.hir_mod_collector.specs.HirCollectorState.Waiting.{IsNoted, IsNotedBeside, NotesSlots};
 
 use crate::resume::{give_up, skip};
 use either::Either;
@@ -38,6 +38,7 @@ use hir_import_resolution::ImportQueue;
 use hir_macro_calls::due::{Due, due_of};
 use hir_macro_calls::queue::{requeue, wake, watch};
 use hir_mod_collector::hir_collector_imports::settling;
+use hir_mod_collector::hir_collector_rules::inner_paths::InnerPaths;
 use hir_mod_collector::hir_collector_rules::macro_directive::{EagerMacro, Fate, MacroDirective};
 use hir_mod_collector::hir_collector_rules::source_database::SourceDatabase;
 use hir_mod_collector::hir_collector_rules::start::{CollectError, STEP_LIMIT, StepError};
@@ -48,6 +49,22 @@ use hir_tables::Tables;
 
 /// How many rounds may make progress. One more ends a run.
 pub const ROUND_LIMIT: u32 = 8192;
+
+/// Has what waits at the place wait on: the macro that it reaches asks for these paths first, and one of them reaches nothing.
+fn wait_for_paths(
+    run: &mut DefCollector,
+    i: usize,
+    makro: MacroId,
+    inner: InnerPaths,
+) -> Result<(), StepError>
+    ensures ok { OnOk result (core_in run.new ≡ counted (with_eager (core_in run.old) i (record { makro = makro; inner = inner }))) }
+    ensures noted { OnOk result (IsNoted run.old run.new) }
+    ensures many { result ≡ Err StepError.TooMany → STEP_LIMIT ≤ (core_in run.old).count }
+{
+    run.meet_eager(i, EagerMacro { makro, inner })?;
+    run.tick()?;
+    Ok(())
+}
 
 /// Expands what waits at the place, which reaches a macro whose source has a number: notes the call in its module, and handles
 /// the items of its expansion, with all that is in them. Where the macro asks for a path first that reaches nothing, notes
@@ -75,14 +92,15 @@ fn expand_known<D: SourceDatabase>(
     ensures many { result ≡ Err CollectError.TooMany → OnceGrown locations.new (D.workspace db.old) (λ env. IsSpent env (part_of world.entry) (at_rest (core_in run.old))) }
     ensures unknown { result ≡ Err CollectError.UnknownSource → ReachesUnknownSource locations.new (part_of world.entry) (at_rest (core_in run.old)) }
 {
-    let Expansion { id, error, source } = match look_at_call(run, db, world, locations, call, makro)? {
+    let look = look_at_call(run, db, world, locations, call, makro)?;
+    let expansion = match look {
         CallLook::Expands(expansion) => expansion,
         CallLook::Waits(inner) => {
-            run.meet_eager(i, EagerMacro { makro, inner })?;
-            run.tick()?;
+            wait_for_paths(run, i, makro, inner)?;
             return Ok(false);
         }
     };
+    let Expansion { id, error, source } = expansion;
     let site = call_site(call, id)?;
     run.end_call(i, Fate::Handled);
     run.note_call(call, id)?;
@@ -136,7 +154,7 @@ fn do_due<D: SourceDatabase>(
 ) -> Result<bool, CollectError>
     requires ready { IsReady locations.old (part_of world) (core_in run.old) }
     requires waits { IsDue (at_rest (core_in run.old)) i call.now }
-    requires due { IsDueOf (part_of world) (core_in run.old) call.now due }
+    requires due { IsDueOf (part_of world) (core_in run.old) i call.now due }
     requires below { (makro : MacroId) → due ≡ Due.Reaches makro → call.now.site.level < 4294967295 }
     ensures kept { KeepsTables locations.old locations.new }
     ensures same { D.workspace db.new ≡ D.workspace db.old }

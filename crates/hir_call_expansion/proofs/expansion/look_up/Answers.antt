@@ -13,7 +13,6 @@ use Rattle.hir_collector_state.specs.HirCollectorRules.Keys.{source_in}
 use Rattle.hir_collector_state.specs.HirCollectorRules.Moves.{OnceGrown}
 use Rattle.hir_collector_state.specs.HirCollectorRules.NumberedOut.{IsCallNumberedOut}
 use Rattle.hir_collector_state.specs.HirCollectorRules.State.{Core, core_in, with_asked}
-use Rattle.hir_collector_state.specs.HirCollectorRules.Workspace.{Workspace, entry_look}
 use Rattle.hir_collector_state.proofs.HirCollectorStart.CallPlaces.{placed_grown}
 use Rattle.hir_collector_state.proofs.HirCollectorRules.Numbers.{refused_full}
 use Rattle.hir_call_expansion.proofs.Looking.{call_numbered_out, entry_numbered_out, placed_call}

@@ -17,7 +17,7 @@ invariant-loop-makro g l =
         text = called_text (part_of l.world) (core_in l.run).map makro (text_at l.locations w makro);
       })) (drop l.makro-index l.macros)
           ≡ map (λ (makro : MacroId). text_by (record {
-        makro = makro;
-        text = called_text (part_of l.world) (core_in l.run).map makro (text_at l.locations w makro);
-      })) l.macros;
+            makro = makro;
+            text = called_text (part_of l.world) (core_in l.run).map makro (text_at l.locations w makro);
+          })) l.macros;
     }

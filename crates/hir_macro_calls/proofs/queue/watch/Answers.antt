@@ -1,5 +1,4 @@
--- A call that reaches no macro, or one that asks for a path which reaches none, watches what it has read. (Not checked yet: the names of the second `watch` and
--- of what `missing_at` gives are guesses.)
+-- A call that reaches no macro, or one that asks for a path which reaches none, watches what it has read.
 use Rattle.std.proofs.Common.{◌∙◌, ◌≡◌, ◌++◌, ℕ, ap, subst, sym, List, None, Option, length}
 use Rattle.hir_collector_state.specs.HirIds.declared.ast_id.AstId.{AstId}
 use Rattle.hir_collector_state.specs.HirDefMapRules.State.{Map}
@@ -55,8 +54,9 @@ returns-clause-up_to_date c =
     (subst (λ (slots : List Slot). IsWatching c.module_count.result slots c.item_of.result c.args.i c.args.queue.now c.watch.new.self)
     c.call_slots-slots.ensures.value c.in_ok-watch.ensures.watching)) in
     let second : IsWatching (length core.map.modules) behind None c.args.i c.watch.new.self c.watch-2.new.self =
-    subst (λ (n : ℕ). IsWatching n behind None c.args.i c.watch.new.self c.watch-2.new.self) count
-    (subst (λ (slots : List Slot). IsWatching c.module_count.result slots None c.args.i c.watch.new.self c.watch-2.new.self)
+    subst (λ (n : ℕ). IsWatching n behind None c.args.i c.watch.new.self c.watch-2.new.self) (c.module_count-2.ensures.value ∙ ap
+    (λ (m : Map). length m.modules) c.map-2.ensures.value)
+    (subst (λ (slots : List Slot). IsWatching c.module_count-2.result slots None c.args.i c.watch.new.self c.watch-2.new.self)
     c.inner_slots-inner.ensures.value c.in_ok-watch-2.ensures.watching) in
     up_to_date_watched part c.args.queue.now c.watch-2.new.self core c.args.i c.requires.up_to_date d (reads ++ behind) c.requires.apart waits c.requires.nowhere
     (vain_behind part core c.args.i d path (sym c.in-Some-missing_at.ensures.value)) (c.requires.low d waits.call) c.requires.in_order

@@ -27,7 +27,7 @@ returns-in-Nothing-clause-noted g c = noted_beside (noted_itself c.args.run.now)
 pub returns-in-Nothing-clause-tried : goal.returns-in-Nothing-clause-tried
 returns-in-Nothing-clause-tried g c =
     let part = part_of c.args.world in
-    let due : IsDueOf part (core_in c.args.run.now) c.args.call.now Nothing = subst (IsDueOf part (core_in c.args.run.now) c.args.call.now) c.in-Nothing.is
+    let due : IsDueOf part (core_in c.args.run.now) c.args.i c.args.call.now Nothing = subst (IsDueOf part (core_in c.args.run.now) c.args.i c.args.call.now) c.in-Nothing.is
     c.requires.due in
     left (meets_none _ _ refl) (nothing_due part (core_in c.args.run.now) c.args.i c.args.call.now c.requires.waits.waiting due)
 
@@ -35,7 +35,7 @@ returns-in-Nothing-clause-tried g c =
 pub returns-in_err-drop_call-in-TooDeep-clause-many : goal.returns-in_err-drop_call-in-TooDeep-clause-many
 returns-in_err-drop_call-in-TooDeep-clause-many g c = λ h grown k.
     let part = part_of c.args.world in
-    let due : IsDueOf part (core_in c.args.run.now) c.args.call.now TooDeep = subst (IsDueOf part (core_in c.args.run.now) c.args.call.now) c.in-TooDeep.is
+    let due : IsDueOf part (core_in c.args.run.now) c.args.i c.args.call.now TooDeep = subst (IsDueOf part (core_in c.args.run.now) c.args.i c.args.call.now) c.in-TooDeep.is
     c.requires.due in
     let deep : IsDeep (at_rest (core_in c.args.run.now)) c.args.i c.args.call.now = record { due = c.requires.waits; is_call = due.0; deep = due.1 } in
     past_rule (environment grown (g.D.SourceDatabase.workspace c.args.db.now)) part (core_in c.args.run.now) (drops_call c.args.i c.args.call.now) deep tt tt
@@ -45,7 +45,7 @@ returns-in_err-drop_call-in-TooDeep-clause-many g c = λ h grown k.
 pub returns-in_ok-drop_call-in-TooDeep-clause-ok : goal.returns-in_ok-drop_call-in-TooDeep-clause-ok
 returns-in_ok-drop_call-in-TooDeep-clause-ok g c = λ grown k.
     let part = part_of c.args.world in
-    let due : IsDueOf part (core_in c.args.run.now) c.args.call.now TooDeep = subst (IsDueOf part (core_in c.args.run.now) c.args.call.now) c.in-TooDeep.is
+    let due : IsDueOf part (core_in c.args.run.now) c.args.i c.args.call.now TooDeep = subst (IsDueOf part (core_in c.args.run.now) c.args.i c.args.call.now) c.in-TooDeep.is
     c.requires.due in
     let deep : IsDeep (at_rest (core_in c.args.run.now)) c.args.i c.args.call.now = record { due = c.requires.waits; is_call = due.0; deep = due.1 } in
     dropped (environment grown (g.D.SourceDatabase.workspace c.args.db.now)) part (core_in c.args.run.now) c.args.i c.args.call.now
@@ -70,7 +70,7 @@ returns-in_default-clause-noted g c = noted_beside (noted_itself c.args.run.now)
 pub returns-in_default-clause-tried : goal.returns-in_default-clause-tried
 returns-in_default-clause-tried g c =
     let part = part_of c.args.world in
-    let due : IsDueOf part (core_in c.args.run.now) c.args.call.now Skips = subst (IsDueOf part (core_in c.args.run.now) c.args.call.now) c.in-Skips.is
+    let due : IsDueOf part (core_in c.args.run.now) c.args.i c.args.call.now Skips = subst (IsDueOf part (core_in c.args.run.now) c.args.i c.args.call.now) c.in-Skips.is
     c.requires.due in
     let missing : waiting_item c.args.call.now ≡ None = sym c.in_default.ensures.value in
     let there : waiting_item c.args.call.now ≡ Some due.0 = due.1 in
@@ -82,7 +82,7 @@ skip-requires-clause-of g c = sym c.in-Some.ensures.value
 pub skip-requires-clause-passed : goal.skip-requires-clause-passed
 skip-requires-clause-passed g c =
     let part = part_of c.args.world in
-    let due : IsDueOf part (core_in c.args.run.now) c.args.call.now Skips = subst (IsDueOf part (core_in c.args.run.now) c.args.call.now) c.in-Skips.is
+    let due : IsDueOf part (core_in c.args.run.now) c.args.i c.args.call.now Skips = subst (IsDueOf part (core_in c.args.run.now) c.args.i c.args.call.now) c.in-Skips.is
     c.requires.due in
     due.2
 
@@ -100,8 +100,8 @@ returns-in_default-builtin_impl-clause-noted g c = noted_beside (noted_itself c.
 pub returns-in_default-builtin_impl-clause-tried : goal.returns-in_default-builtin_impl-clause-tried
 returns-in_default-builtin_impl-clause-tried g c =
     let part = part_of c.args.world in
-    let due : IsDueOf part (core_in c.args.run.now) c.args.call.now (Derives c.in-Derives.makro) =
-    subst (IsDueOf part (core_in c.args.run.now) c.args.call.now) c.in-Derives.is c.requires.due in
+    let due : IsDueOf part (core_in c.args.run.now) c.args.i c.args.call.now (Derives c.in-Derives.makro) =
+    subst (IsDueOf part (core_in c.args.run.now) c.args.i c.args.call.now) c.in-Derives.is c.requires.due in
     absurd (has_impl c.in-Derives.makro c.args.call.now.kind due.0.builtin due.1 (sym c.in_default-builtin_impl.ensures.value))
 
 pub derive_builtin-requires-clause-in_range : goal.derive_builtin-requires-clause-in_range
@@ -110,8 +110,8 @@ derive_builtin-requires-clause-in_range g c = c.requires.ready.calls c.args.i c.
 pub derive_builtin-requires-clause-builtin : goal.derive_builtin-requires-clause-builtin
 derive_builtin-requires-clause-builtin g c =
     let part = part_of c.args.world in
-    let due : IsDueOf part (core_in c.args.run.now) c.args.call.now (Derives c.in-Derives.makro) =
-    subst (IsDueOf part (core_in c.args.run.now) c.args.call.now) c.in-Derives.is c.requires.due in
+    let due : IsDueOf part (core_in c.args.run.now) c.args.i c.args.call.now (Derives c.in-Derives.makro) =
+    subst (IsDueOf part (core_in c.args.run.now) c.args.i c.args.call.now) c.in-Derives.is c.requires.due in
     record { due = c.requires.waits; reaches = due.0.reaches; builtin = due.0.builtin; is = sym c.in-Some-builtin_impl.ensures.value }
 
 pub returns-in_err-derive_builtin-in-Derives-clause-many : goal.returns-in_err-derive_builtin-in-Derives-clause-many
@@ -132,8 +132,8 @@ returns-in_ok-derive_builtin-in-Derives-clause-tried g c = handled c.args.call.n
 pub drop_reached-requires : goal.drop_reached-requires
 drop_reached-requires g c =
     let part = part_of c.args.world in
-    let due : IsDueOf part (core_in c.args.run.now) c.args.call.now (Drops c.in-Drops.makro) =
-    subst (IsDueOf part (core_in c.args.run.now) c.args.call.now) c.in-Drops.is c.requires.due in
+    let due : IsDueOf part (core_in c.args.run.now) c.args.i c.args.call.now (Drops c.in-Drops.makro) =
+    subst (IsDueOf part (core_in c.args.run.now) c.args.i c.args.call.now) c.in-Drops.is c.requires.due in
     record {
       deep = record {
         called = record { due = c.requires.waits; active = due.0.active; reaches = due.0.reaches; expands = due.0.expands };
@@ -159,15 +159,15 @@ returns-in_ok-drop_reached-in-Drops-clause-tried g c = handled c.args.call.now c
 pub expand-requires-clause-called : goal.expand-requires-clause-called
 expand-requires-clause-called g c =
     let part = part_of c.args.world in
-    let due : IsDueOf part (core_in c.args.run.now) c.args.call.now (Reaches c.in-Reaches.makro) =
-    subst (IsDueOf part (core_in c.args.run.now) c.args.call.now) c.in-Reaches.is c.requires.due in
+    let due : IsDueOf part (core_in c.args.run.now) c.args.i c.args.call.now (Reaches c.in-Reaches.makro) =
+    subst (IsDueOf part (core_in c.args.run.now) c.args.i c.args.call.now) c.in-Reaches.is c.requires.due in
     record { due = c.requires.waits; active = due.0.active; reaches = due.0.reaches; expands = due.0.expands }
 
 pub expand-requires-clause-shallow : goal.expand-requires-clause-shallow
 expand-requires-clause-shallow g c =
     let part = part_of c.args.world in
-    let due : IsDueOf part (core_in c.args.run.now) c.args.call.now (Reaches c.in-Reaches.makro) =
-    subst (IsDueOf part (core_in c.args.run.now) c.args.call.now) c.in-Reaches.is c.requires.due in
+    let due : IsDueOf part (core_in c.args.run.now) c.args.i c.args.call.now (Reaches c.in-Reaches.makro) =
+    subst (IsDueOf part (core_in c.args.run.now) c.args.i c.args.call.now) c.in-Reaches.is c.requires.due in
     due.1
 
 pub expand-requires-clause-below : goal.expand-requires-clause-below

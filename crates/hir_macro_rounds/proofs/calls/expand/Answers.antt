@@ -1,6 +1,6 @@
 -- What waits is expanded, unless the source that writes the macro has no number.
 use Rattle.hir_mod_collector.proofs.HirCollectorRules.Numbers.{tables_stay}
-use Rattle.hir_mod_collector.specs.HirCollectorRules.UnknownSources.{of_macro}
+use Rattle.hir_mod_collector.specs.HirCollectorRules.UnknownSources.{of_itself}
 use Rattle.hir_macro_rounds.proofs.calls.expand.Goals as goal
 
 -- the source has none
@@ -14,7 +14,7 @@ returns-then-not-is_meant-clause-unknown g c = λ h. record {
   makro = c.args.makro;
   called = c.requires.called;
   shallow = c.requires.shallow;
-  unknown = of_macro (c.is_meant.ensures.unknown c.if-not-is_meant.true);
+  unknown = of_itself (c.is_meant.ensures.unknown c.if-not-is_meant.true);
 }
 
 -- it has one

@@ -119,7 +119,7 @@ give_up-requires-clause-rests g c =
     let idle = none_handled env part (core_in c.args.run.now) (core_in c.requeue.new.run) (core_in c.try_calls.new.run) c.in_ok-try_calls.field-0
     c.if-branch.false
     (c.in_ok-try_calls.ensures.tried later (tables_stay later)) in
-    rests_still {env = env} (core_in c.requeue.new.run) (core_in c.try_calls.new.run) idle.0
+    rests_still part (core_in c.requeue.new.run) (core_in c.try_calls.new.run) idle.0
     (subst (λ (core : Core). IsAtRest part (import_state (at_rest core))) (sym c.requeue.ensures.same) c.requires.rests)
 
 pub give_up-requires-clause-nowhere : goal.give_up-requires-clause-nowhere

@@ -28,7 +28,7 @@ returns-in-Nothing-clause-ok g c = λ grown k. none
 pub returns-in-Nothing-clause-tried : goal.returns-in-Nothing-clause-tried
 returns-in-Nothing-clause-tried g c =
     left (meets_none _ _ refl) (nothing_due (part_of c.args.world) (core_in c.args.run.now) c.args.i c.in-Some.call.now c.in-Some.ensures.waits
-    (subst (IsDueOf (part_of c.args.world) (core_in c.args.run.now) c.in-Some.call.now) c.in-Nothing.is c.due_of-due.ensures.value))
+    (subst (IsDueOf (part_of c.args.world) (core_in c.args.run.now) c.args.i c.in-Some.call.now) c.in-Nothing.is c.due_of-due.ensures.value))
 
 pub returns-in_default-clause-noted : goal.returns-in_default-clause-noted
 returns-in_default-clause-noted g c = noted_beside (noted_itself c.args.run.now)
@@ -45,7 +45,7 @@ do_due-requires-clause-waits g c =
 
 pub do_due-requires-clause-due : goal.do_due-requires-clause-due
 do_due-requires-clause-due g c =
-    subst (λ (d : MacroDirective). IsDueOf (part_of c.args.world) (core_in c.args.run.now) d c.due_of-due.result) (sym c.in_ok-call.ensures.value)
+    subst (λ (d : MacroDirective). IsDueOf (part_of c.args.world) (core_in c.args.run.now) c.args.i d c.due_of-due.result) (sym c.in_ok-call.ensures.value)
     c.due_of-due.ensures.value
 
 pub do_due-requires-clause-below : goal.do_due-requires-clause-below
