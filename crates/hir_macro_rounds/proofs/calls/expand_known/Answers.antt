@@ -94,7 +94,7 @@ returns-in-Waits-clause-ok g c =
     let seen = subst (IsLook tables w part c.args.call.now c.args.makro old asked) c.in-Waits.is c.in_ok-look.ensures.ok in
     meets_steps tables w part old asked c.args.i c.args.call.now c.args.makro seen.0 seen.1 c.requires.called c.requires.shallow
     (core_in c.wait_for_paths.new.run) (subst (λ (ps : List Path). core_in c.wait_for_paths.new.run
-    ≡ counted (with_eager asked c.args.i (record { makro = c.args.makro; inner = ps }))) seen.2 c.in_ok-wait_for_paths.ensures.ok)
+    ≡ counted (with_eager asked c.args.i (record { makro = c.args.makro; inner = ps }))) seen.2 c.in_ok-wait_for_paths-in-Waits.ensures.ok)
 
 pub returns-in-Waits-clause-tried : goal.returns-in-Waits-clause-tried
 returns-in-Waits-clause-tried g c =
@@ -108,10 +108,10 @@ returns-in-Waits-clause-tried g c =
     let inside : c.args.i < length old.eager = subst (λ (n : ℕ). c.args.i < n) (sym c.requires.ready.listed) below in
     meets_left tables w part old asked c.args.i c.args.call.now c.args.makro seen.0 seen.1 c.requires.called c.requires.shallow
     (core_in c.wait_for_paths.new.run) (subst (λ (ps : List Path). core_in c.wait_for_paths.new.run
-    ≡ counted (with_eager asked c.args.i (record { makro = c.args.makro; inner = ps }))) seen.2 c.in_ok-wait_for_paths.ensures.ok) inside
+    ≡ counted (with_eager asked c.args.i (record { makro = c.args.makro; inner = ps }))) seen.2 c.in_ok-wait_for_paths-in-Waits.ensures.ok) inside
 
 pub returns-in-Waits-clause-noted : goal.returns-in-Waits-clause-noted
-returns-in-Waits-clause-noted g c = noted_beside (noted_follow c.in_ok-look.ensures.noted c.in_ok-wait_for_paths.ensures.noted)
+returns-in-Waits-clause-noted g c = noted_beside (noted_follow c.in_ok-look.ensures.noted c.in_ok-wait_for_paths-in-Waits.ensures.noted)
 
 pub returns-in_err-wait_for_paths-in-Waits-clause-many : goal.returns-in_err-wait_for_paths-in-Waits-clause-many
 returns-in_err-wait_for_paths-in-Waits-clause-many g c = λ h.
@@ -122,11 +122,11 @@ returns-in_err-wait_for_paths-in-Waits-clause-many g c = λ h.
     let asked = core_in c.look_at_call.new.run in
     let seen = subst (IsLook tables w part c.args.call.now c.args.makro old asked) c.in-Waits.is c.in_ok-look.ensures.ok in
     meets_too_far tables w part old asked c.args.i c.args.call.now c.args.makro seen.0 seen.1 c.requires.called c.requires.shallow
-    (c.in_err-wait_for_paths.ensures.many (sym c.in_err-wait_for_paths.was ∙ refused_step _ _ _ c.in_err-wait_for_paths.was
-    c.from_residual-in_err-wait_for_paths.ensures.1 h))
+    (c.in_err-wait_for_paths-in-Waits.ensures.many (sym c.in_err-wait_for_paths-in-Waits.was ∙ refused_step _ _ _ c.in_err-wait_for_paths-in-Waits.was
+    c.from_residual-in_err-wait_for_paths-in-Waits.ensures.1 h))
 
 pub returns-in_err-wait_for_paths-in-Waits-clause-unknown : goal.returns-in_err-wait_for_paths-in-Waits-clause-unknown
-returns-in_err-wait_for_paths-in-Waits-clause-unknown g c = λ h. absurd (known_step _ _ c.from_residual-in_err-wait_for_paths.ensures.1 h)
+returns-in_err-wait_for_paths-in-Waits-clause-unknown g c = λ h. absurd (known_step _ _ c.from_residual-in_err-wait_for_paths-in-Waits.ensures.1 h)
 
 -- ---- the items of its expansion
 
