@@ -1,11 +1,11 @@
 -- A call that waits meets an eager macro, of whose paths one reaches nothing: a step, in which it is left.
-use Rattle.std.proofs.Common.{◌≡◌, ◌∙◌, ◌<◌, ◌≤◌, ℕ, Contains, IsSome, List, None, Option, Some, ap, length, refl, subst, false}
+use Rattle.std.proofs.Common.{◌≡◌, ◌<◌, ◌≤◌, ℕ, Contains, IsSome, List, None, Option, Some, ap, length, refl, subst, false}
 use Rattle.hir_mod_collector.specs.HirIds.declared.macro_kind.MacroId.{MacroId}
 use Rattle.hir_mod_collector.specs.HirIds.contracts.macro_kind.MacroIdEq.TheImpl.Laws.{laws-law as macro_laws}
 use Rattle.hir_mod_collector.specs.HirTables.Tables.{TablesValue}
 use Rattle.hir_mod_collector.specs.HirDefMapRules.Overlay.{Maps}
 use Rattle.hir_mod_collector.specs.HirBase.ModPath.{Path}
-use Rattle.hir_mod_collector.specs.HirCollectorRules.CallMoves.{OnlyMeets, SeesEager, TriesCall, left}
+use Rattle.hir_mod_collector.specs.HirCollectorRules.CallMoves.{SeesEager, TriesCall, left}
 use Rattle.hir_mod_collector.specs.HirCollectorRules.Calls.{EagerLook, asked_first, first_missing, inner_macro}
 use Rattle.hir_mod_collector.specs.HirCollectorRules.Derivation.{IsSpent}
 use Rattle.hir_mod_collector.specs.HirCollectorRules.Keys.{environment}

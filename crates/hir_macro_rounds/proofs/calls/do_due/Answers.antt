@@ -203,4 +203,4 @@ pub returns-in_err-drop_reached-in-Drops-clause-unknown : goal.returns-in_err-dr
 returns-in_err-drop_reached-in-Drops-clause-unknown g c = λ h. absurd (known_step _ _ c.from_residual-in_err-drop_reached-in-Drops.ensures.1 h)
 
 pub returns-in-Reaches-clause-unknown : goal.returns-in-Reaches-clause-unknown
-returns-in-Reaches-clause-unknown g c = λ h. record { at = at_rest (core_in c.args.run.now); steps = none; reaches = c.expand-in-Reaches.ensures.unknown h }
+returns-in-Reaches-clause-unknown g c = λ h. record { at = at_rest (core_in c.args.run.now); steps = none; reaches = c.expand.ensures.unknown h }
