@@ -2,7 +2,7 @@
 use Rattle.std.specs.List.{cons_option, filter_map}
 use Rattle.std.specs.Option.{option_and_then}
 use Rattle.std.proofs.Common.{◌≡◌, ◌∙◌, inl, inr, ap, sym, subst, refl, ℕ, ◌+◌, Bool, true, false, is_some, List, [], ◌∷◌, ◌++◌, map, Option, Some, None}
-use Rattle.std.proofs.Common.{IsSome, option_map, slice_get}
+use Rattle.std.proofs.Common.{◌<◌, IsSome, option_map, slice_get}
 use Rattle.std.specs.Prelude.{unwrap_or, cond, is_none, not, ◌||◌, Ok, Err}
 use Rattle.std.proofs.Common.{zero, suc, Contains}
 use mathlib.Core.Bool.{true≢false}
