@@ -207,3 +207,6 @@ returns-clause-ends g c = λ v finished agrees.
     (c.in_ok-finish-2.ensures.value
     ∙ ap (λ (told : List DefDiagnostic). told_run last told c.in_ok-run-2.round_limit_met c.in_ok-transitive.transitive.value) c.in_ok-told-2.ensures.value)
     v finished agrees
+
+pub returns-clause-placed : goal.returns-clause-placed
+returns-clause-placed g c = λ placed. c.in_ok-run-2.ensures.placed (c.in_ok-run.ensures.placed placed)
