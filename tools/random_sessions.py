@@ -152,6 +152,8 @@ class Crates:
         fields = {"name": self.choose(MACROS), "text": self.choose(TEXTS)}
         if self.random.random() < 0.1:
             fields["styles"] = self.choose([["attr"], ["bang", "derive"]])
+        if self.random.random() < 0.5:
+            fields["expander"] = "builtin_eager"
         if self.random.random() < 0.3:
             return self.node("MacroDef", **fields)
         if self.random.random() < 0.3:
@@ -199,7 +201,16 @@ class Crates:
         self.leaf, self.expansion, self.calls = False, True, 2
         of_list = self.random.random() < 0.5
         unit = {"nodes": self.held() if of_list else self.items(2)} if self.random.random() < 0.95 else "broken"
-        return unit, "e" if self.random.random() < 0.1 else None
+        return unit, "e" if self.random.random() < 0.1 else None, None
+
+    def inner_of(self):
+        """Paths that a macro asks to have resolved first, with an error now and then."""
+        paths = [self.choose(MACROS) if self.random.random() < 0.8 else self.path() + "::" + self.choose(MACROS) for _ in range(self.choose([0, 1, 1, 1, 2]))]
+        return None, "e" if self.random.random() < 0.1 else None, paths
+
+    def reached(self, paths, caller, count):
+        """The macros that such paths may reach."""
+        return tuple((caller if self.random.random() < 0.7 else self.random.randrange(count), self.choose(TEXTS)) for _ in paths)
 
     def crates(self, count):
         found = []
@@ -270,21 +281,38 @@ def with_one_text_changed(unit, drawn):
 
 
 def entry(key, found):
-    caller, of, text, given = key
-    command = {"do": "set expansion", "key": {"caller": caller, "crate": of, "text": text, "call": "bang", "input": given}, "unit": found[0]}
+    caller, of, text, given, reached = key
+    command = {"do": "set expansion", "key": {"caller": caller, "crate": of, "text": text, "call": "bang", "input": given}}
+    if reached:
+        command["key"]["reached"] = [{"crate": krate, "text": inner} for krate, inner in reached]
+    command.update({"unit": found[0]} if found[2] is None else {"inner": found[2]})
     return command if found[1] is None else {**command, "error": found[1]}
 
 
 def edit_of_expansions(entries, count, drawn):
-    """Sets an expansion, or takes one away; now and then one that isn't there."""
+    """Sets an expansion, or takes one away; now and then one that isn't there. Where it lists paths, often that which it grows to as well."""
     caller = drawn.random.randrange(count)
     of = caller if drawn.random.random() < 0.7 else drawn.random.randrange(count)
-    key = (caller, of, drawn.choose(TEXTS), drawn.choose(INPUTS))
+    roll = drawn.random.random()
+    key = (caller, of, drawn.choose(TEXTS), drawn.choose(INPUTS), ())
+    waiting = [other for other, found in entries.items() if found[2]]
+    if roll < 0.35 and waiting:
+        key = drawn.choose(waiting)
+        key = key[:4] + (drawn.reached(entries[key][2], key[0], count),)
     if drawn.random.random() < 0.2:
         entries.pop(key, None)
-        return {**entry(key, (None, None)), "do": "remove expansion"}
-    entries[key] = drawn.expansion_of() if drawn.random.random() < 0.9 or not entries else drawn.choose(list(entries.values()))
-    return entry(key, entries[key])
+        return [{**entry(key, (None, None, None)), "do": "remove expansion"}]
+    if not key[4] and roll < 0.6:
+        entries[key] = drawn.inner_of()
+        commands = [entry(key, entries[key])]
+        while entries[key][2] and drawn.random.random() < 0.7:
+            grown = key[:4] + (drawn.reached(entries[key][2], caller, count),)
+            entries[grown] = drawn.expansion_of()
+            commands.append(entry(grown, entries[grown]))
+        return commands
+    others = [found for found in entries.values() if found[2] is None]
+    entries[key] = drawn.expansion_of() if drawn.random.random() < 0.9 or not others else drawn.choose(others)
+    return [entry(key, entries[key])]
 
 
 def edit_of_files(files, crates, drawn):
@@ -383,14 +411,14 @@ def session(seed):
     drawn = Crates(seed)
     crates = drawn.crates(drawn.random.randint(1, 4))
     files, blocks, entries, commands = {}, {}, {}, [{"do": "crates", "crates": copy.deepcopy(crates)}]
-    for key in [(number, number, text, given) for number in range(len(crates)) for text in TEXTS for given in INPUTS]:
+    for key in [(number, number, text, given, ()) for number in range(len(crates)) for text in TEXTS for given in INPUTS]:
         if drawn.random.random() < 0.7:
             entries[key] = drawn.expansion_of()
             commands.append(entry(key, entries[key]))
     for _ in range(drawn.random.randint(10, 36)):
         roll = drawn.random.random()
         if roll < 0.3:
-            commands.append(edit_of_expansions(entries, len(crates), drawn))
+            commands += edit_of_expansions(entries, len(crates), drawn)
         elif roll < 0.45:
             commands.append(edit_of_crates(crates, drawn))
             commands += [{"do": "status", "at": [number]} for number in range(len(crates))]

@@ -281,27 +281,71 @@ class Crate:
         macro = found["macros"].definition
         if call.style == "attr" and macro.expander == "builtin_attr":
             return self.go_on(call)
+        builtin = call.style == "derive" and macro.expander == "builtin_derive"
+        key = None if builtin or deep else self.key_of(call, macro, self.ask)
+        if key is None and not (builtin or deep):
+            return False
         call.handled = True
         if call.style == "derive":
             self.helpers.setdefault(call.item(), []).extend(macro.helpers)
-            if macro.expander == "builtin_derive":
+            if builtin:
                 self.derived.append((call, macro))
                 return True
         if deep:
             return True
-        text = macro.exported
-        if text is None:
-            text = self.ask(("text", macro.krate.number) + macro.source.key() + (macro.kind, tuple(macro.id)))
-        given = self.ask(("input", self.number) + call.source.key() + (call.node["kind"], tuple(call.node["id"])))
-        style = call.style if call.style != "attr" else ["attr", call.attr]
-        key = (self.number, macro.krate.number, text, dump(style), given)
-        there, error = self.ask(("entry", key))
+        there, error, _ = self.ask(("entry", key))
         unit, _ = self.tree(("entry", key))
         if not there or error is not None:
             item = {"id": call.node["id"], "in": call.source.text(), "kind": call.node["kind"]}
             self.tell("macro error", call.at, item=item, path=print_path(call.path), error=error if there else "absent")
         self.walk(unit.get("nodes", []), call.at, Source(outer=call.source, call=call.kind(), entry=key), call.depth + 1)
         return True
+
+    @staticmethod
+    def text_of(macro, look):
+        if macro.exported is not None:
+            return macro.exported
+        return look(("text", macro.krate.number) + macro.source.key() + (macro.kind, tuple(macro.id)))
+
+    def first_key(self, call, macro, look):
+        """The key of a call's expansion while no path in its input is resolved."""
+        text = self.text_of(macro, look)
+        given = look(("input", self.number) + call.source.key() + (call.node["kind"], tuple(call.node["id"])))
+        style = call.style if call.style != "attr" else ["attr", call.attr]
+        return self.number, macro.krate.number, text, dump(style), given, ()
+
+    def inner_macros(self, at, paths):
+        """The macros that paths reach which an eager macro asks for, and the first of them that reaches none."""
+        macros = []
+        for path in paths:
+            found, _, _ = self.resolve(at, parse_path(path), style="bang")
+            if "macros" not in found:
+                return macros, path
+            macros.append(found["macros"].definition)
+        return macros, None
+
+    def grown(self, key, macro, at, look):
+        """The key once the paths that the macro asks for reach macros; None while one of them reaches none."""
+        if macro.expander != "builtin_eager":
+            return key
+        macros, missing = self.inner_macros(at, look(("entry", key))[2])
+        if missing is not None:
+            return None
+        return key[:-1] + (tuple((inner.krate.number, self.text_of(inner, look)) for inner in macros),)
+
+    def key_of(self, call, macro, look):
+        return self.grown(self.first_key(call, macro, look), macro, call.at, look)
+
+    def told_path(self, call):
+        """The path for which a call is told that is left over."""
+        found, _, _ = self.resolve(call.at, call.path, style="bang" if call.style == "bang" else "attr")
+        if call.style != "derive" and "macros" in found and found["macros"].definition.expander == "builtin_eager":
+            macro, look = found["macros"].definition, self.workspace.look
+            paths = look(("entry", self.first_key(call, macro, look)))[2]
+            _, missing = self.inner_macros(call.at, paths)
+            if missing is not None:
+                return print_path(parse_path(missing))
+        return print_path(call.path)
 
     def go_on(self, call):
         """The item of an attribute that waited goes on behind it, one level deeper."""
@@ -313,7 +357,7 @@ class Crate:
         """Gives up the first attribute that waits; whether there was one."""
         for call in self.calls:
             if call.style == "attr" and not call.handled:
-                self.tell("unresolved macro call", call.at, call=call.text(), path=print_path(call.path))
+                self.tell("unresolved macro call", call.at, call=call.text(), path=self.told_path(call))
                 self.go_on(call)
                 return True
         return False
@@ -338,7 +382,7 @@ class Crate:
     def report(self):
         for call in self.calls:
             if not call.handled:
-                self.tell("unresolved macro call", call.at, call=call.text(), path=print_path(call.path))
+                self.tell("unresolved macro call", call.at, call=call.text(), path=self.told_path(call))
         missing = {import_.crate for import_ in self.imports if import_.kind == "extern" and not import_.taken}
         for import_ in self.imports:
             item = {key: value for key, value in import_.item.text().items() if key != "crate"}
@@ -515,12 +559,15 @@ class Crate:
             found["diagnostics"].append({**told, "module": at.text()})
             return
         macro = reached["macros"].definition
-        text = macro.exported
-        if text is None:
-            text = look(("text", macro.krate.number) + macro.source.key() + (macro.kind, tuple(macro.id)))
         given = look(("input", self.number) + source.key() + ("MacroCall", tuple(node["id"])))
-        key = (self.number, macro.krate.number, text, dump("bang"), given)
-        there, error = look(("entry", key))
+        first = (self.number, macro.krate.number, self.text_of(macro, look), dump("bang"), given, ())
+        key = self.grown(first, macro, at, look)
+        if key is None:
+            _, missing = self.inner_macros(at, look(("entry", first))[2])
+            told = {"kind": "unresolved macro call", "call": where, "path": print_path(parse_path(missing))}
+            found["diagnostics"].append({**told, "module": at.text()})
+            return
+        there, error, _ = look(("entry", key))
         found["calls"].append(where)
         if not there or error is not None:
             told = {"kind": "macro error", "item": where, "path": print_path(path), "error": error if there else "absent"}

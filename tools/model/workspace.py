@@ -42,7 +42,7 @@ class Workspace:
         kind = key[0]
         if kind == "entry":
             entry = self.entries.get(key[1])
-            return (False, None) if entry is None else (True, entry[1])
+            return (False, None, ()) if entry is None else (True, *entry[1:])
         if kind == "config":
             return self.config(key[1])
         krate, source, rest = self.crates[key[1]], key[2:4], key[4:]
@@ -108,6 +108,26 @@ class Workspace:
         stays = {name: value for name, value in self.crates[number].items() if name in ("root", "proc_macro")}
         gets = {name: value for name, value in to.items() if name not in ("root", "proc_macro")}
         self.edit(lambda: self.crates.__setitem__(number, {**gets, **stays}))
+        return {"ok": None}
+
+    def edit_expansion(self, command):
+        """Sets what calls with a key expand to, or the paths that their macro asks to have resolved first, or takes it away."""
+        key = command["key"]
+        reached = tuple((macro["crate"], macro["text"]) for macro in key.get("reached", []))
+        name = (key["caller"], key["crate"], key["text"], dump(key["call"]), key["input"], reached)
+        if command["do"] == "set expansion" and "inner" in command and ("unit" in command or reached):
+            return {"error": "command"}
+        if max([name[0], name[1]] + [krate for krate, _ in reached]) >= len(self.crates):
+            return {"error": "unknown crate"}
+        if command["do"] == "remove expansion":
+            self.edit(lambda: self.entries.pop(name, None))
+            return {"ok": None}
+        inner = tuple(command.get("inner", []))
+        if any(len(parse_path(path)[1]) > 64 for path in inner):
+            return {"error": "too large", "what": "path"}
+        if len(inner) > 1000:
+            return {"error": "too large", "what": "inner"}
+        self.edit(lambda: self.entries.__setitem__(name, (command.get("unit", {}), command.get("error"), inner)))
         return {"ok": None}
 
     def is_kept(self, map_):
@@ -203,15 +223,7 @@ class Workspace:
                 self.edit(lambda: self.files.pop(file, None))
             return {"ok": None}
         if do in ("set expansion", "remove expansion"):
-            key = command["key"]
-            name = (key["caller"], key["crate"], key["text"], dump(key["call"]), key["input"])
-            if max(name[0], name[1]) >= len(self.crates):
-                return {"error": "unknown crate"}
-            if do == "remove expansion":
-                self.edit(lambda: self.entries.pop(name, None))
-            else:
-                self.edit(lambda: self.entries.__setitem__(name, (command["unit"], command.get("error"))))
-            return {"ok": None}
+            return self.edit_expansion(command)
         if do in ("set block", "remove block"):
             place = read_place(command["at"])
             if place[0] >= len(self.crates):

@@ -14,7 +14,8 @@ use Rattle.hir_collector_rules.specs.Calls.{call_tree}
 use Rattle.hir_collector_rules.specs.Keys.{environment}
 use Rattle.hir_collector_rules.specs.Moves.{OnceGrown}
 use Rattle.hir_collector_rules.specs.Workspace.{Workspace}
-use Rattle.hir_assoc_items.specs.AssocItems.{Becomes, ContainerValue, ListingValue, Reaches, call, call_error, call_source, expanded, followed_by, one_call}
+use Rattle.hir_assoc_items.specs.AssocItems.{Becomes, ContainerValue, ListingValue, Reaches, call, call_error, call_source, expanded, first_missing, followed_by}
+use Rattle.hir_assoc_items.specs.AssocItems.{inner_paths, one_call, unresolved, waits}
 use Rattle.hir_assoc_items.specs.Steps.{AreMeant, SeesCall, Takes}
 use Rattle.hir_assoc_items.specs.Written.{WrittenValue, assoc_kind, item_node, top_items, written, written_as, written_item}
 use Rattle.hir_assoc_items.specs.declared.written.AssocKind.{AssocKind}
@@ -59,11 +60,27 @@ taken_expanded tables w c i path makro id error source before after old new reac
       (written (call_tree id) (i.level + 1) (top_items s.tree.items)))
       (sym (sees.brought grown k)) (call path (one_call c (item_node i) id path (call_error env c (item_node i) makro))
       (written (call_tree id) (i.level + 1) (top_items (call_source env c id).tree.items)) reaches.is
-      (expanded makro id reaches.shallow reaches.reached (sees.numbered grown k))));
+      (expanded makro id reaches.shallow reaches.reached (sees.first grown k) (sees.numbered grown k))));
   left = left;
   found = found;
   meant = written_meant tables (call_tree id) sees.meant (i.level + 1) (top_items source.tree.items);
 }
+
+-- the value of which it is said that there is one
+pub some_of : {A : Type 0} (o : Option A) → IsSome o → (a : A) × (o ≡ Some a)
+some_of None there = absurd (let no : ⊥ = cc in no)
+some_of (Some a) there = (a, refl)
+
+-- a call whose macro asks for a path first that reaches nothing is told for it
+pub taken_waiting : (tables : TablesValue) (w : Workspace) (c : ContainerValue) (i : WrittenValue) (path : Path) (makro : MacroId) (paths : List Path)
+    (lacking : Path) (left : List WrittenValue) (old new : ListingValue) → Reaches c i path makro
+    → OnceGrown tables w (λ env. paths ≡ inner_paths env c (item_node i) makro) → first_missing c paths ≡ Some lacking
+    → new ≡ followed_by old (unresolved c i lacking)
+    → Takes tables w c i left left old new
+taken_waiting tables w c i path makro paths lacking left old new reaches are missing found =
+    taken_alone tables w c i left old new (unresolved c i lacking)
+    (λ grown k. call path (unresolved c i lacking) [] reaches.is (waits makro lacking reaches.shallow reaches.reached
+    (subst (λ (ps : List Path). first_missing c ps ≡ Some lacking) (are grown k) missing))) found
 
 pub meant_once : {T E : Type 0} (tables : TablesValue) (items : List WrittenValue) (r : Result T E) (view : T → List WrittenValue)
     → IfOk r (λ t. view t ≡ items) → AreMeant tables items

@@ -9,7 +9,8 @@ use Rattle.hir_collector_rules.specs.HirTables.Tables.{HasEachOnce}
 use Rattle.hir_collector_rules.specs.Calls.{call_tree}
 use Rattle.hir_collector_rules.specs.Keys.{Environment}
 use Rattle.hir_assoc_items.specs.AssocItems.{Becomes, CallBecomes, ContainerValue, FlattensTo, IsNumberOfCall, ListingValue, call, call_loc, call_error}
-use Rattle.hir_assoc_items.specs.AssocItems.{call_source, expanded, followed_by, left_out, listed, next, none, one_call, too_deep, unconfigured, unreached}
+use Rattle.hir_assoc_items.specs.AssocItems.{call_source, expanded, first_missing, followed_by, inner_paths, left_out, listed, next, none, one_call, too_deep, unconfigured}
+use Rattle.hir_assoc_items.specs.AssocItems.{unreached, unresolved, waits}
 use Rattle.hir_assoc_items.specs.Laws.{ListingIsUnique}
 use Rattle.hir_assoc_items.specs.Written.{WrittenValue, item_node, path_called, top_items, written}
 
@@ -29,13 +30,32 @@ module _ (env : Environment) (c : ContainerValue) (once : HasEachOnce env.tables
     of_call : (path : Path) (a b : ListingValue) (xs ys : List WrittenValue) → CallBecomes env c i path a xs → CallBecomes env c i path b ys → Same a b xs ys
     of_call path _ _ _ _ (too_deep p) (too_deep q) = (refl, refl)
     of_call path _ _ _ _ (too_deep p) (unreached q none_there) = absurd (omega arith)
-    of_call path _ _ _ _ (too_deep p) (expanded makro id q reached number) = absurd (omega arith)
+    of_call path _ _ _ _ (too_deep p) (waits makro inner q reached missing) = absurd (omega arith)
+    of_call path _ _ _ _ (too_deep p) (expanded makro id q reached all number) = absurd (omega arith)
     of_call path _ _ _ _ (unreached p none_there) (too_deep q) = absurd (omega arith)
     of_call path _ _ _ _ (unreached p none_there) (unreached q nothing_there) = (refl, refl)
-    of_call path _ _ _ _ (unreached p none_there) (expanded makro id q reached number) = absurd (let no : ⊥ = cc in no)
-    of_call path _ _ _ _ (expanded makro id p reached number) (too_deep q) = absurd (omega arith)
-    of_call path _ _ _ _ (expanded makro id p reached number) (unreached q none_there) = absurd (let no : ⊥ = cc in no)
-    of_call path _ _ _ _ (expanded makro id p reached number) (expanded other by q also numbered) =
+    of_call path _ _ _ _ (unreached p none_there) (waits makro inner q reached missing) = absurd (let no : ⊥ = cc in no)
+    of_call path _ _ _ _ (unreached p none_there) (expanded makro id q reached all number) = absurd (let no : ⊥ = cc in no)
+    of_call path _ _ _ _ (waits makro inner p reached missing) (too_deep q) = absurd (omega arith)
+    of_call path _ _ _ _ (waits makro inner p reached missing) (unreached q none_there) = absurd (let no : ⊥ = cc in no)
+    of_call path _ _ _ _ (waits makro inner p reached missing) (waits other lacking q also lacks) =
+        let same : other ≡ makro = cc in
+        let there : first_missing c (inner_paths env c (item_node i) makro) ≡ Some lacking =
+        subst (λ (k : MacroId). first_missing c (inner_paths env c (item_node i) k) ≡ Some lacking) same lacks in
+        let one : inner ≡ lacking = cc in (ap (λ (k : Path). unresolved c i k) one, refl)
+    of_call path _ _ _ _ (waits makro inner p reached missing) (expanded other by q also all numbered) =
+        let same : other ≡ makro = cc in
+        let none_lacks : first_missing c (inner_paths env c (item_node i) makro) ≡ None =
+        subst (λ (k : MacroId). first_missing c (inner_paths env c (item_node i) k) ≡ None) same all in
+        absurd (let no : ⊥ = cc in no)
+    of_call path _ _ _ _ (expanded makro id p reached all number) (too_deep q) = absurd (omega arith)
+    of_call path _ _ _ _ (expanded makro id p reached all number) (unreached q none_there) = absurd (let no : ⊥ = cc in no)
+    of_call path _ _ _ _ (expanded makro id p reached all number) (waits other lacking q also lacks) =
+        let same : other ≡ makro = cc in
+        let there : first_missing c (inner_paths env c (item_node i) makro) ≡ Some lacking =
+        subst (λ (k : MacroId). first_missing c (inner_paths env c (item_node i) k) ≡ Some lacking) same lacks in
+        absurd (let no : ⊥ = cc in no)
+    of_call path _ _ _ _ (expanded makro id p reached all number) (expanded other by q also every numbered) =
         let same : other ≡ makro = cc in
         let one : id ≡ by = number_one (item_node i) makro id by number (subst (λ (k : MacroId). IsNumberOfCall env c (item_node i) k by) same numbered) in (
           ap (λ (k : MacroCallId). one_call c (item_node i) k path (call_error env c (item_node i) makro)) one

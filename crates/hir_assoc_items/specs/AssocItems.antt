@@ -1,7 +1,7 @@
 -- Which items does a trait or an impl have?
 --
 -- Its list is gone through in order. A function, a type alias or a constant with a name is listed. The items of its expansion stand in place of a macro call
--- whose path reaches a macro. What a condition leaves out, and a call that reaches no macro, are told instead.
+-- whose path reaches a macro, with all that this asks to have resolved first. What a condition leaves out, and a call that reaches no macro, are told instead.
 use Rattle.std.specs.Prelude.{◌≡◌, ◌<◌, ◌≤◌, ℕ, suc, ◌+◌, List, [], ◌∷◌, ◌++◌, map, Option, None, Some, option_map, unwrap_or}
 use Rattle.std.specs.Option.{option_and_then}
 use Rattle.hir_collector_rules.specs.HirBase.Cfg.{Cfg}
@@ -16,6 +16,7 @@ use Rattle.hir_collector_rules.specs.HirIds.declared.ids.ItemContainerId.{ItemCo
 use Rattle.hir_collector_rules.specs.HirIds.declared.ids.ItemLoc.{ItemLoc}
 use Rattle.hir_collector_rules.specs.HirIds.declared.ast_id.MacroCallId.{MacroCallId}
 use Rattle.hir_collector_rules.specs.HirBase.declared.macro_kind.MacroCallLoc.{MacroCallLoc}
+use Rattle.hir_collector_rules.specs.HirBase.declared.macro_kind.MacroText.{MacroText}
 use Rattle.hir_collector_rules.specs.HirIds.declared.macro_kind.MacroId.{MacroId}
 use Rattle.hir_collector_rules.specs.HirIds.declared.ids.ModuleId.{ModuleId}
 use Rattle.hir_collector_rules.specs.HirIds.declared.ids.AssocItemId.TheVariants as definitions
@@ -38,7 +39,7 @@ use Rattle.hir_collector_rules.specs.HirDefMapRules.Overlay.{Maps, map_in}
 use Rattle.hir_collector_rules.specs.HirDefMapRules.Scoping.{resolution_of}
 use Rattle.hir_collector_rules.specs.HirDefMapRules.State.{Local, MacroDataValue, Map}
 use Rattle.hir_collector_rules.specs.HirMapParts.declared.diagnostics.DefDiagnostic.{DefDiagnostic}
-use Rattle.hir_collector_rules.specs.Calls.{by_style, call_key, call_tree, error_of, expansion_of_call, macro_among}
+use Rattle.hir_collector_rules.specs.Calls.{asked_first, by_style, call_key, call_tree, error_of, expansion_of_call, macro_among, or_missing, text_by}
 use Rattle.hir_collector_rules.specs.Keys.{Environment, IsMeant, input_at, source_in, text_at}
 use Rattle.hir_collector_rules.specs.NumberedOut.{IsNumberedOut}
 use Rattle.hir_collector_rules.specs.Workspace.{Workspace, options_of}
@@ -103,10 +104,33 @@ macro_text env maps (Macro2Id id) = text_at env.tables env.workspace (Macro2Id i
 macro_text env maps (MacroRulesId id) = text_at env.tables env.workspace (MacroRulesId id)
 macro_text env maps (ProcMacroId id) = exported_name maps (ProcMacroId id)
 
--- what the expansion of a call depends on that is written at a node and reaches a macro
+-- what the expansion of a call depends on that is written at a node and reaches a macro, while no path is resolved
+abbrev pub first_expansion : Environment → ContainerValue → AstId → MacroId → ExpansionValue
+first_expansion env c node makro =
+    expansion_of_call (crate_of c) styles.Bang makro (macro_text env c.maps makro) (input_at env.tables env.workspace (crate_of c) node)
+
+-- the paths that the macro asks to have resolved first
+abbrev pub inner_paths : Environment → ContainerValue → AstId → MacroId → List Path
+inner_paths env c node makro = asked_first makro (env.workspace.entry (first_expansion env c node makro))
+
+-- the first of some paths that reaches nothing
+abbrev pub first_missing : ContainerValue → List Path → Option Path
+first_missing c [] = None
+first_missing c (path ∷ paths) = or_missing path (macro_called c path) (first_missing c paths)
+
+-- the macros that paths reach, with their texts
+abbrev pub with_reached : Environment → ContainerValue → Option MacroId → List MacroText → List MacroText
+with_reached env c None texts = texts
+with_reached env c (Some makro) texts = text_by (record { makro = makro; text = macro_text env c.maps makro }) ∷ texts
+
+abbrev pub texts_reached : Environment → ContainerValue → List Path → List MacroText
+texts_reached env c [] = []
+texts_reached env c (path ∷ paths) = with_reached env c (macro_called c path) (texts_reached env c paths)
+
+-- what the expansion depends on: the macros that these paths reach as well
 abbrev pub expansion_by : Environment → ContainerValue → AstId → MacroId → ExpansionValue
 expansion_by env c node makro =
-    expansion_of_call (crate_of c) styles.Bang makro (macro_text env c.maps makro) (input_at env.tables env.workspace (crate_of c) node)
+    record (first_expansion env c node makro) { reached = texts_reached env c (inner_paths env c node makro) }
 
 abbrev pub call_loc : AstId → EntryId → MacroCallLoc
 call_loc node entry = record { kind = calls.FnLike node; entry = entry }
@@ -192,8 +216,12 @@ pub data CallBecomes (env : Environment) (c : ContainerValue) (i : WrittenValue)
   too_deep : limit_of c ≤ i.level → CallBecomes env c i path nothing []
   -- one that reaches no macro is told
   unreached : i.level < limit_of c → macro_called c path ≡ None → CallBecomes env c i path (unresolved c i path) []
+  -- so is one whose macro asks for a path first that reaches none: for the first such path
+  waits : (makro : MacroId) (inner : Path) → i.level < limit_of c → macro_called c path ≡ Some makro
+      → first_missing c (inner_paths env c (item_node i) makro) ≡ Some inner → CallBecomes env c i path (unresolved c i inner) []
   -- the items of its expansion, one level deeper
-  expanded : (makro : MacroId) (id : MacroCallId) → i.level < limit_of c → macro_called c path ≡ Some makro → IsNumberOfCall env c (item_node i) makro id
+  expanded : (makro : MacroId) (id : MacroCallId) → i.level < limit_of c → macro_called c path ≡ Some makro
+      → first_missing c (inner_paths env c (item_node i) makro) ≡ None → IsNumberOfCall env c (item_node i) makro id
       → CallBecomes env c i path (one_call c (item_node i) id path (call_error env c (item_node i) makro))
       (written (call_tree id) (i.level + 1) (top_items (call_source env c id).tree.items))
 
@@ -235,10 +263,12 @@ pub record Meets (env : Environment) (c : ContainerValue) (items : List WrittenV
   pub path : Path
   pub reaches : Reaches c i path makro
 
--- what a call depends on has no number and gets none; or it has one, and the call gets none
+-- all paths that its macro asks for first reach macros, and what the call depends on has no number and gets none; or it has one, and the call gets none
 pub data HasNoNumber (env : Environment) (c : ContainerValue) (node : AstId) (makro : MacroId) : Type 0 where
-  expansion_out : IsNumberedOut env.tables.entries (expansion_by env c node makro) → HasNoNumber env c node makro
-  call_out : (entry : EntryId) → entry_at env.tables entry ≡ Some (expansion_by env c node makro) → IsNumberedOut env.tables.calls (call_loc node entry)
+  expansion_out : first_missing c (inner_paths env c node makro) ≡ None → IsNumberedOut env.tables.entries (expansion_by env c node makro)
+      → HasNoNumber env c node makro
+  call_out : first_missing c (inner_paths env c node makro) ≡ None → (entry : EntryId) → entry_at env.tables entry ≡ Some (expansion_by env c node makro)
+      → IsNumberedOut env.tables.calls (call_loc node entry)
       → HasNoNumber env c node makro
 
 -- no number is left for a call, or more items come up than are counted
@@ -246,9 +276,14 @@ pub data IsTooMany (env : Environment) (c : ContainerValue) (items : List Writte
   numbered_out : (i : WrittenValue) (makro : MacroId) → Meets env c items i makro → HasNoNumber env c (item_node i) makro → IsTooMany env c items
   overlong : (i : WrittenValue) → ComesUp env c items STEP_LIMIT i → IsTooMany env c items
 
--- a call reaches a macro whose source has no number
+-- the source of a macro that a call reaches has no number, or that of one which a path reaches
+pub data IsUnknown (tables : TablesValue) (c : ContainerValue) (makro : MacroId) : Type 0 where
+  of_macro : ¬ IsMeant tables makro → IsUnknown tables c makro
+  of_inner : (path : Path) (inner : MacroId) → macro_called c path ≡ Some inner → ¬ IsMeant tables inner → IsUnknown tables c makro
+
+-- a call reaches such a macro
 pub record ReachesUnknown (env : Environment) (c : ContainerValue) (items : List WrittenValue) : Type 0 where
   pub item : WrittenValue
   pub makro : MacroId
   pub meets : Meets env c items item makro
-  pub unknown : ¬ IsMeant env.tables makro
+  pub unknown : IsUnknown env.tables c makro

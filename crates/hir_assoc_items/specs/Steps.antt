@@ -1,5 +1,5 @@
 -- Where a walk over a list stands; no clause of a query speaks of this.
-use Rattle.std.specs.Prelude.{◌≡◌, ℕ, ◌+◌, List, [], ◌∷◌, ◌++◌, IsSome, map, reverse, Option}
+use Rattle.std.specs.Prelude.{◌≡◌, ℕ, ◌+◌, List, [], ◌∷◌, ◌++◌, IsSome, None, map, reverse, Option}
 use Rattle.hir_collector_rules.specs.HirBase.ModPath.{Path}
 use Rattle.hir_collector_rules.specs.HirIds.declared.ast_id.AstId.{AstId}
 use Rattle.hir_collector_rules.specs.HirBase.declared.locations.LocationsError.{LocationsError}
@@ -10,15 +10,17 @@ use Rattle.hir_collector_rules.specs.HirItemTree.SourceTree.{SourceTreeValue}
 use Rattle.hir_collector_rules.specs.HirTables.Tables.{TablesValue, source_of}
 use Rattle.hir_collector_rules.specs.HirNameres.DefMaps.{maps_of}
 use Rattle.hir_collector_rules.specs.Calls.{call_tree}
-use Rattle.hir_collector_rules.specs.Keys.{Environment, IsMeant}
+use Rattle.hir_collector_rules.specs.Keys.{Environment}
 use Rattle.hir_collector_rules.specs.Moves.{OnceGrown}
 use Rattle.hir_collector_rules.specs.Workspace.{Workspace}
-use Rattle.hir_assoc_items.specs.AssocItems.{Becomes, ComesUp, ContainerValue, FlattensTo, HasNoNumber, IsNumberOfCall, ListingValue, Reaches, call_error}
-use Rattle.hir_assoc_items.specs.AssocItems.{call_source, container_of, followed_by, listing_of}
+use Rattle.hir_assoc_items.specs.AssocItems.{Becomes, ComesUp, ContainerValue, FlattensTo, HasNoNumber, IsNumberOfCall, IsUnknown, ListingValue, Reaches, call_error, first_missing}
+use Rattle.hir_assoc_items.specs.AssocItems.{call_source, container_of, followed_by, inner_paths, listing_of}
 use Rattle.hir_assoc_items.specs.Written.{WrittenValue, item_node, written_view}
 use Rattle.hir_assoc_items.specs.declared.container.Container.{Container}
 use Rattle.hir_assoc_items.specs.declared.error.AssocItemsError.{AssocItemsError}
 use Rattle.hir_assoc_items.specs.declared.error.AssocItemsError.TheVariants as errors
+use Rattle.hir_assoc_items.specs.declared.expansions.CallLook.{CallLook}
+use Rattle.hir_assoc_items.specs.declared.expansions.CallLook.TheVariants.{Expands, Waits}
 use Rattle.hir_assoc_items.specs.declared.flatten.Listing.{Listing}
 use Rattle.hir_assoc_items.specs.declared.written.Written.{Written}
 
@@ -49,7 +51,14 @@ pub record SeesCall (tables : TablesValue) (w : Workspace) (c : ContainerValue) 
   pub numbered : OnceGrown tables w (λ env. IsNumberOfCall env c node makro id)
   pub told : OnceGrown tables w (λ env. error ≡ call_error env c node makro)
   pub brought : OnceGrown tables w (λ env. source ≡ call_source env c id)
+  pub first : OnceGrown tables w (λ env. first_missing c (inner_paths env c node makro) ≡ None)
   pub meant : IsSome (source_of tables (call_tree id))
+
+-- what is found of it: what it expands to, or the paths that the macro asks for first, of which one reaches nothing
+abbrev pub IsLook : TablesValue → Workspace → ContainerValue → AstId → MacroId → CallLook → Type 0
+IsLook tables w c node makro (Expands e) = SeesCall tables w c node makro e.id e.error e.source.value
+IsLook tables w c node makro (Waits inner) =
+    OnceGrown tables w (λ env. inner ≡ inner_paths env c node makro) × IsSome (first_missing c inner)
 
 -- an item was taken: it adds this, and these stand in its place
 pub record Takes (tables : TablesValue) (w : Workspace) (c : ContainerValue) (i : WrittenValue) (before after : List WrittenValue)
@@ -82,4 +91,4 @@ pub record LeadsToUnknown (env : Environment) (c : ContainerValue) (i : WrittenV
   pub path : Path
   pub makro : MacroId
   pub reaches : Reaches c i path makro
-  pub unknown : ¬ IsMeant env.tables makro
+  pub unknown : IsUnknown env.tables c makro

@@ -1,18 +1,19 @@
 //! The walk over the list of a trait or an impl, after rust-analyzer's `AssocItemCollector`.
-ghost use Rattle.std.specs.Prelude.{◌≡◌, ◌<◌, IfOk, IsSome, OnOk, map};
+ghost use Rattle.std.specs.Prelude.{◌≡◌, ◌<◌, IfOk, IsSome, OnOk, Some, map, option_map};
+ghost use Rattle.hir_collector_rules.specs.HirBase.ModPath.{Path};
 ghost use Rattle.hir_collector_rules.specs.HirBase.Cfg.{cfg_view};
 ghost use Rattle.hir_collector_rules.specs.HirTables.Tables.{KeepsTables, source_of};
 ghost use Rattle.hir_collector_rules.specs.HirDefMapRules.Diagnostics.{UnconfiguredCode};
 ghost use Rattle.hir_collector_rules.specs.Calls.{AreCallsPlaced};
-ghost use Rattle.hir_collector_rules.specs.Keys.{IsMeant, environment};
+ghost use Rattle.hir_collector_rules.specs.Keys.{environment};
 ghost use Rattle.hir_collector_rules.specs.Workspace.{options_of};
-ghost use Rattle.hir_assoc_items.specs.AssocItems.{FlattensTo, HasNoNumber, IsCall, IsTooMany, Reaches, ReachesUnknown, crate_of, definition_of, followed_by, listed_by, nothing, one_call, one_diagnostic, unresolved};
+ghost use Rattle.hir_assoc_items.specs.AssocItems.{FlattensTo, HasNoNumber, IsCall, IsTooMany, IsUnknown, Reaches, ReachesUnknown, crate_of, definition_of, first_missing, followed_by, listed_by, nothing, one_call, one_diagnostic, unresolved};
 ghost use Rattle.hir_assoc_items.specs.Steps.{AreMeant, IsGivenUp, LeadsToUnknown, Takes, container_view, left_of, listing_view};
 ghost use Rattle.hir_assoc_items.specs.Written.{item_node, written_view};
 
 use crate::container::Container;
 use crate::error::AssocItemsError;
-use crate::expansions::{Expansion, call_tree, look_at_call};
+use crate::expansions::{CallLook, Expansion, call_tree, look_at_call};
 use crate::written::{Written, of_tree};
 use hir_base::ast_id::{AstId, MacroCallId};
 use hir_base::cfg::CfgExpr;
@@ -96,6 +97,38 @@ fn tell_unresolved(
     Ok(())
 }
 
+/// The first of paths that reaches nothing.
+fn first_missing<'p>(container: &Container<'_>, paths: &'p [ModPath]) -> Option<&'p ModPath>
+    ensures value { option_map (λ path. path.now) result ≡ first_missing (container_view container.now) paths.now }
+{
+    let mut left = paths;
+    'next: while let [path, others @ ..] = left {
+        if container.called_macro(path).is_none() {
+            return Some(path);
+        }
+        left = others;
+    }
+    None
+}
+
+/// Tells a call whose macro asks for paths first, for the first of them that reaches nothing.
+fn tell_missing(
+    container: &Container<'_>,
+    item: &Written,
+    paths: &[ModPath],
+    found: &mut Listing,
+) -> Result<(), AllocError>
+    requires missing { IsSome (first_missing (container_view container.now) paths.now) }
+    ensures ok { OnOk result ((path : Path) → first_missing (container_view container.now) paths.now ≡ Some path
+        → listing_view found.new ≡ followed_by (listing_view found.old) (unresolved (container_view container.now) (written_view item.now) path)) }
+{
+    let Some(path) = first_missing(container, paths) else {
+        return Ok(());
+    };
+    tell_unresolved(container, item, path, found)?;
+    Ok(())
+}
+
 /// Enters a call that was expanded, and tells what is wrong with its expansion.
 fn enter(
     container: &Container<'_>,
@@ -150,12 +183,18 @@ fn expand<D: SourceDatabase>(
     ensures same { D.workspace db.new ≡ D.workspace db.old }
     ensures ok { OnOk result (Takes locations.new (D.workspace db.old) (container_view container.now) (written_view item.now) (left_of left.old.items) (left_of left.new.items) (listing_view found.old) (listing_view found.new)) }
     ensures many { result ≡ Err AssocItemsError.TooMany → HasNoNumber (environment locations.new (D.workspace db.old)) (container_view container.now) (item_node (written_view item.now)) makro }
-    ensures unknown { result ≡ Err AssocItemsError.UnknownSource → ¬ IsMeant locations.new makro }
+    ensures unknown { result ≡ Err AssocItemsError.UnknownSource → IsUnknown locations.new (container_view container.now) makro }
 {
     let node = item.node();
-    let Expansion { id, error, source } = look_at_call(
-        alloc, db, container, locations, node, makro,
-    )?;
+    let look = look_at_call(alloc, db, container, locations, node, makro)?;
+    let expansion = match look {
+        CallLook::Expands(expansion) => expansion,
+        CallLook::Waits(inner) => {
+            tell_missing(container, item, inner.as_slice(), found)?;
+            return Ok(());
+        }
+    };
+    let Expansion { id, error, source } = expansion;
     enter(container, node, id, path, error, found)?;
     let mut inside = of_tree(alloc, call_tree(id), item.level + 1, source.tree())?;
     inside.reverse();

@@ -1,1 +1,4 @@
 pub mod Looking
+pub mod Texts
+pub mod Reached
+pub mod Behind

@@ -1,5 +1,5 @@
 -- What is asked for of a call that reaches a macro.
-use Rattle.std.proofs.Common.{◌≡◌, ◌∙◌, ℕ, ◌++◌, List, [], ◌∷◌, Option, Some, refl, sym, ap, subst, option_and_then, option_map}
+use Rattle.std.proofs.Common.{◌≡◌, ◌∙◌, ℕ, ◌++◌, List, [], ◌∷◌, Option, None, Some, refl, sym, ap, subst, option_and_then, option_map}
 use Rattle.std.specs.Prelude.{IsSome}
 use Rattle.hir_collector_state.specs.HirIds.declared.ast_id.AstId.{AstId}
 use Rattle.hir_collector_state.specs.HirBase.declared.macro_kind.CallStyle.{CallStyle}
@@ -16,7 +16,7 @@ use Rattle.hir_collector_state.specs.HirTables.Tables.{KeepsTables, TablesValue,
 use Rattle.hir_collector_state.proofs.HirTables.Growth.{KeepsTables-trans}
 use Rattle.hir_collector_state.specs.HirDefMapRules.Diagnostics.{call_node}
 use Rattle.hir_collector_state.specs.HirDefMapRules.Overlay.{Maps}
-use Rattle.hir_collector_state.specs.HirDefMapRules.State.{Map}
+use Rattle.hir_collector_state.specs.HirDefMapRules.State.{Local, Map}
 use Rattle.hir_collector_state.specs.HirCollectorRules.declared.source_database.Key.{Key}
 use Rattle.hir_collector_state.specs.HirCollectorRules.declared.macro_directive.MacroDirective.{MacroDirective}
 use Rattle.hir_collector_state.specs.HirCollectorRules.declared.macro_directive.MacroDirectiveKind.{MacroDirectiveKind}
@@ -24,15 +24,15 @@ use Rattle.hir_collector_state.specs.HirCollectorRules.declared.source_database.
 use Rattle.hir_collector_state.specs.HirCollectorRules.CallMoves.{SeesCall}
 use Rattle.hir_collector_state.specs.HirCollectorRules.declared.macro_directive.MacroDirectiveKind.TheVariants.{Attr, Derive, FnLike}
 use Rattle.hir_collector_state.specs.HirCollectorRules.Calls.{AreCallsPlaced, Expanding, IsMeantCall, IsNumberedCall}
-use Rattle.hir_collector_state.specs.HirCollectorRules.Calls.{IsTextOf, call_key, call_kind, call_loc, call_style}
+use Rattle.hir_collector_state.specs.HirCollectorRules.Calls.{IsTextOf, asked_first, call_key, call_kind, call_loc, call_style}
 use Rattle.hir_collector_state.specs.HirCollectorRules.Calls.{call_tree, called_text, expansion_of_call, expansion_readings, kind_by, text_readings}
 use Rattle.hir_collector_state.specs.HirCollectorRules.Keys.{Environment, IsMeant, entry_under, environment, input_at}
 use Rattle.hir_collector_state.specs.HirCollectorRules.Keys.{node_tree, of_entry, of_input, of_text, of_tree, source_in}
 use Rattle.hir_collector_state.specs.HirCollectorRules.Keys.{text_at}
 use Rattle.hir_collector_state.specs.HirCollectorRules.ModuleFiles.{Reading}
 use Rattle.hir_collector_state.specs.HirCollectorRules.Moves.{OnceGrown}
-use Rattle.hir_collector_state.specs.HirCollectorRules.NumberedOut.{IsCallNumberedOut, LacksExpansion, call_out, expansion_by, expansion_out}
-use Rattle.hir_collector_state.specs.HirCollectorRules.State.{Core, with_asked}
+use Rattle.hir_collector_state.specs.HirCollectorRules.NumberedOut.{IsCallNumberedOut, IsNumberedOut, LacksExpansion, at_once, call_out, expansion_by, expansion_out, no_entry}
+use Rattle.hir_collector_state.specs.HirCollectorRules.State.{Core}
 use Rattle.hir_collector_state.specs.HirCollectorRules.Steps.{Sees, keys_read, with_keys}
 use Rattle.hir_collector_state.specs.HirCollectorRules.Workspace.{Workspace, seen_of}
 use Rattle.hir_collector_state.proofs.HirCollectorStart.CallPlaces.{placed_loc}
@@ -55,19 +55,9 @@ pub Sees-append : (env : Environment) (finished : Maps) (xs ys : List Reading) �
 Sees-append env finished [] ys p q = q
 Sees-append env finished (x ∷ xs) ys p q = (p.0, Sees-append env finished xs ys p.1 q)
 
--- the text of a macro was asked for, and then the input, the expansion and its items
-pub asked_all : (c text input entry tree : Core) (own : Crate) (d : MacroDirective) (makro : MacroId) (x : Expanding)
-    → text ≡ record c { asked = with_keys c.asked (keys_read (text_readings makro x.text)) } → input ≡ with_asked text (keys.Input own d.ast_id) → entry
-    ≡ with_asked input (keys.Expansion x.entry)
-    → tree ≡ with_asked entry (keys.Tree (call_key own x.id))
-    → tree ≡ record c { asked = with_keys c.asked (keys_read (text_readings makro x.text ++ expansion_readings own d x)) }
-asked_all c text input entry tree own d makro x first second third fourth =
-    let behind : List Key = keys_read (expansion_readings own d x) in
-    fourth
-    ∙ ap (λ (e : Core). with_asked e (keys.Tree (call_key own x.id))) (third ∙ ap (λ (e : Core). with_asked e (keys.Expansion x.entry))
-    (second ∙ ap (λ (e : Core). with_asked e (keys.Input own d.ast_id)) first))
-    ∙ ap (λ (ks : List Key). record c { asked = ks }) (sym (with_keys-append c.asked (keys_read (text_readings makro x.text)) behind))
-    ∙ ap (λ (ks : List Key). record c { asked = with_keys c.asked ks }) (sym (keys_read-append (text_readings makro x.text) (expansion_readings own d x)))
+-- what is seen of a call whose macro asks for no paths first
+abbrev pub alone : Expanding → Expanding
+alone y = record y { grown = None }
 
 -- ---- numbers
 
@@ -79,8 +69,29 @@ source_of_call tables id loc key call entry =
     ap (λ (o : Option MacroCallLoc). option_map expansion (option_and_then (λ (l : MacroCallLoc). entry_at tables l.entry) o)) call ∙ ap
     (λ (o : Option ExpansionValue). option_map expansion o) entry
 
-module _ (first second tables : TablesValue) (w : Workspace) (finished : Maps) (c new : Core) (d : MacroDirective) (makro : MacroId) (x : Expanding) (source : SourceTreeValue)
+-- the text of a macro that was looked up is there, and stays as tables grow
+pub sees_text : (first : TablesValue) (w : Workspace) (finished : Maps) (m : Map) (makro : MacroId) (text : Option (List ℕ)) → IsMeant first makro
+    → text ≡ called_text finished m makro (text_at first w makro)
+    → (grown : TablesValue) → KeepsTables first grown → (maps : Maps)
+    → Sees (environment grown w) maps (text_readings makro text)
+sees_text first w finished m (macros.Macro2Id id) text there is grown k maps =
+    (looks_stand first grown w maps (keys.Text (macros.Macro2Id id)) k there ∙ ap of_text (sym is), tt)
+sees_text first w finished m (macros.MacroRulesId id) text there is grown k maps =
+    (looks_stand first grown w maps (keys.Text (macros.MacroRulesId id)) k there ∙ ap of_text (sym is), tt)
+sees_text first w finished m (macros.ProcMacroId id) text there is grown k maps = tt
+
+-- that of a procedural macro is its name
+pub text_of_it : (finished : Maps) (m : Map) (makro : MacroId) (text found : Option (List ℕ)) → text ≡ called_text finished m makro found
+    → IsTextOf finished m makro text
+text_of_it finished m (macros.Macro2Id id) text found is = tt
+text_of_it finished m (macros.MacroRulesId id) text found is = tt
+text_of_it finished m (macros.ProcMacroId id) text found is = is
+
+module _ (first second tables : TablesValue) (w : Workspace) (finished : Maps) (c new : Core) (d : MacroDirective) (makro : MacroId) (y : Expanding) (source : SourceTreeValue)
     (before : KeepsTables first second) (after : KeepsTables second tables) (meant : IsMeantCall first d) (of_macro : IsMeant first makro) where
+  abbrev x : Expanding
+  x = alone y
+
   abbrev own : Crate
   own = c.map.id.krate
 
@@ -91,36 +102,22 @@ module _ (first second tables : TablesValue) (w : Workspace) (finished : Maps) (
   kept = KeepsTables-trans first second tables before after
 
   numbered : entry_at second x.entry ≡ Some key → call_at tables x.id ≡ Some (call_loc d x.entry) → IsNumberedCall tables own d makro x
-  numbered entry call = record { meant = macro_kept first tables kept makro of_macro; entry = after.entries x.entry.0 key entry; call = call }
+  numbered entry call = record { meant = macro_kept first tables kept makro of_macro; entry = after.entries x.entry.0 key entry; call = call; first = tt }
 
-  sees_text : (makro : MacroId) → IsMeant first makro → x.text ≡ called_text finished c.map makro (text_at first w makro) → (grown : TablesValue)
-      → KeepsTables tables grown → (maps : Maps)
-      → Sees (environment grown w) maps (text_readings makro x.text)
-  sees_text (macros.Macro2Id id) there is grown k maps =
-      (looks_stand first grown w maps (keys.Text (macros.Macro2Id id)) (KeepsTables-trans first tables grown kept k) there ∙ ap of_text (sym is), tt)
-  sees_text (macros.MacroRulesId id) there is grown k maps =
-      (looks_stand first grown w maps (keys.Text (macros.MacroRulesId id)) (KeepsTables-trans first tables grown kept k) there ∙ ap of_text (sym is), tt)
-  sees_text (macros.ProcMacroId id) there is grown k maps = tt
-
-  -- that of a procedural macro is its name
-  text_of_it : (makro : MacroId) → x.text ≡ called_text finished c.map makro (text_at first w makro) → IsTextOf finished c.map makro x.text
-  text_of_it (macros.Macro2Id id) is = tt
-  text_of_it (macros.MacroRulesId id) is = tt
-  text_of_it (macros.ProcMacroId id) is = is
-
-  pub sees_call : entry_at second x.entry ≡ Some key → call_at tables x.id ≡ Some (call_loc d x.entry) → x.text ≡ called_text finished c.map makro
+  pub sees_call : asked_first makro x.there ≡ [] → entry_at second x.entry ≡ Some key → call_at tables x.id ≡ Some (call_loc d x.entry) → x.text ≡ called_text finished c.map makro
       (text_at first w makro) → x.input ≡ input_at first w own d.ast_id
       → x.there ≡ w.entry key → x.tree ≡ seen_of source → source ≡ source_in tables w (call_key own x.id)
       → new ≡ record c { asked = with_keys c.asked (keys_read (text_readings makro x.text ++ expansion_readings own d x)) } → SeesCall tables w finished d makro
       c new x source
-  sees_call entry call text input there tree found asked =
+  sees_call nothing entry call text input there tree found asked =
       let at_last : IsNumberedCall tables own d makro x = numbered entry call in
       let place : source_of tables (call_tree x.id) ≡ Some (expansion key) = source_of_call tables x.id (call_loc d x.entry) key call at_last.entry in
       record {
-        text = text_of_it makro text;
+        text = text_of_it finished c.map makro x.text (text_at first w makro) text;
+        first = nothing;
         numbered = λ grown k. call_kept tables grown k own d makro x at_last;
         sees = λ grown k maps.
-            Sees-append (environment grown w) maps (text_readings makro x.text) (expansion_readings own d x) (sees_text makro of_macro text grown k maps) (
+            Sees-append (environment grown w) maps (text_readings makro x.text) (expansion_readings own d x) (sees_text first w finished c.map makro x.text of_macro text grown (KeepsTables-trans first tables grown kept k) maps) (
               looks_stand first grown w maps (keys.Input own d.ast_id) (KeepsTables-trans first tables grown kept k) meant.node ∙ ap of_input (sym input),
               (
                 ap (λ (o : Option ExpansionValue). of_entry (entry_under w o)) (k.entries x.entry.0 key at_last.entry) ∙ ap of_entry (sym there),
@@ -139,14 +136,14 @@ module _ (first second tables : TablesValue) (w : Workspace) (finished : Maps) (
 
 -- ---- what can't get a number
 
-module _ (first tables : TablesValue) (w : Workspace) (finished : Maps) (m : Map) (d : MacroDirective) (makro : MacroId) (kept : KeepsTables first tables)
+module _ (first tables : TablesValue) (w : Workspace) (finished : Maps) (local : Local) (m : Map) (d : MacroDirective) (makro : MacroId) (kept : KeepsTables first tables)
     (meant : IsMeantCall first d) (of_macro : IsMeant first makro) where
   -- what its expansion depends on as the tables were at first
   abbrev key_at_first : ExpansionValue
   key_at_first = expansion_by (environment first w) finished m d makro
 
   -- the macro's text and the call's input stay as tables grow
-  expansion_stays : (grown : TablesValue) → KeepsTables tables grown → expansion_by (environment grown w) finished m d makro ≡ key_at_first
+  pub expansion_stays : (grown : TablesValue) → KeepsTables tables grown → expansion_by (environment grown w) finished m d makro ≡ key_at_first
   expansion_stays grown k =
       let all : KeepsTables first grown = KeepsTables-trans first tables grown kept k in
       let text : of_text (text_at grown w makro) ≡ of_text (text_at first w makro) = looks_stand first grown w finished (keys.Text makro) all of_macro in
@@ -169,27 +166,37 @@ module _ (first tables : TablesValue) (w : Workspace) (finished : Maps) (m : Map
       ∙ ap (λ (t : Option (List ℕ)). expansion_of_call m.id.krate (call_style d) makro t input) text_is
       ∙ ap (λ (i : Option (List ℕ)). expansion_of_call m.id.krate (call_style d) makro (called_text finished m makro (text_at first w makro)) i) input_is
 
-  lacks_by : (key : ExpansionValue) → key ≡ key_at_first → ((grown : TablesValue) → KeepsTables tables grown → IsCallNumberedOut grown (call_kind d) key)
-      → OnceGrown tables w (λ env. LacksExpansion env finished m d makro)
-  lacks_by key is out = λ grown k. record {
-    meant = macro_kept first grown (KeepsTables-trans first tables grown kept k) makro of_macro;
-    out = subst (λ (x : ExpansionValue). IsCallNumberedOut grown (call_kind d) x) (is ∙ sym (expansion_stays grown k)) (out grown k);
-  }
+  pub meant_still : (grown : TablesValue) → KeepsTables tables grown → IsMeant grown makro
+  meant_still grown k = macro_kept first grown (KeepsTables-trans first tables grown kept k) makro of_macro
 
   -- the expansion can't get a number
   pub lacks_expansion : (key : ExpansionValue) → key ≡ key_at_first → IsFull tables.entries key
-      → OnceGrown tables w (λ env. LacksExpansion env finished m d makro)
-  lacks_expansion key is full =
+      → OnceGrown tables w (λ env. LacksExpansion env finished local m d makro)
+  lacks_expansion key is full = λ grown k.
       let out = full_out tables.entries key full in
-      lacks_by key is (λ grown k. expansion_out (still_out tables.entries grown.entries key k.entries out))
+      no_entry (meant_still grown k)
+      (subst (λ (x : ExpansionValue). IsNumberedOut grown.entries x) (is ∙ sym (expansion_stays grown k)) (still_out tables.entries grown.entries key k.entries out))
 
   -- it has one, and the call can't
-  pub lacks_its_call : (key : ExpansionValue) (entry : EntryId) → key ≡ key_at_first → entry_at tables entry ≡ Some key → IsFull tables.calls (call_loc d entry)
-      → OnceGrown tables w (λ env. LacksExpansion env finished m d makro)
-  lacks_its_call key entry is at full =
-      let loc = call_loc d entry in
-      let out = full_out tables.calls loc full in
-      lacks_by key is (λ grown k. call_out entry (k.entries entry.0 key at) (still_out tables.calls grown.calls loc k.calls out))
+  pub lacks_its_call : (key : ExpansionValue) → key ≡ key_at_first → asked_first makro (w.entry key) ≡ []
+      → OnceGrown tables w (λ env. IsCallNumberedOut env.tables (call_kind d) key)
+      → OnceGrown tables w (λ env. LacksExpansion env finished local m d makro)
+  lacks_its_call key is nothing out = λ grown k.
+      let same : key ≡ expansion_by (environment grown w) finished m d makro = is ∙ sym (expansion_stays grown k) in
+      at_once (meant_still grown k) (subst (λ (x : ExpansionValue). asked_first makro (w.entry x) ≡ []) same nothing)
+      (subst (λ (x : ExpansionValue). IsCallNumberedOut grown (call_kind d) x) same (out grown k))
+
+-- a call whose expansion has a number can't get one
+pub call_numbered_out : (tables : TablesValue) (w : Workspace) (d : MacroDirective) (key : ExpansionValue) (entry : EntryId) → entry_at tables entry ≡ Some key
+    → IsFull tables.calls (call_loc d entry) → OnceGrown tables w (λ env. IsCallNumberedOut env.tables (call_kind d) key)
+call_numbered_out tables w d key entry at full = λ grown k.
+    let loc = call_loc d entry in
+    call_out entry (k.entries entry.0 key at) (still_out tables.calls grown.calls loc k.calls (full_out tables.calls loc full))
+
+-- nor can the expansion
+pub entry_numbered_out : (tables : TablesValue) (w : Workspace) (d : MacroDirective) (key : ExpansionValue) → IsFull tables.entries key
+    → OnceGrown tables w (λ env. IsCallNumberedOut env.tables (call_kind d) key)
+entry_numbered_out tables w d key full = λ grown k. expansion_out (still_out tables.entries grown.entries key k.entries (full_out tables.entries key full))
 
 -- ---- where calls are written
 

@@ -1,32 +1,43 @@
 //! What macro calls, derives and attributes expand to: all that an expansion depends on is asked for, and then the expansion.
-ghost use Rattle.std.specs.Prelude.{◌≡◌, ◌<◌, true, false, [], IfOk, None, OnOk, Some, option_map, unwrap_or};
+ghost use Rattle.std.specs.Prelude.{◌≡◌, ◌<◌, List, true, false, [], Contains, IfOk, IsSome, None, OnOk, Some, map, option_map, unwrap_or};
+ghost use Rattle.std.specs.List.{All};
+ghost use Rattle.std.specs.declared.alloc.Global.{Global};
+ghost use Rattle.std.specs.declared.vec.Vec.{Vec};
+ghost use Rattle.hir_collector_state.specs.HirBase.ModPath.{Path};
+ghost use Rattle.hir_collector_state.specs.HirIds.declared.macro_kind.MacroId.{MacroId};
 ghost use Rattle.hir_collector_state.specs.HirItemTree.SyntaxIds.{node_id};
+ghost use Rattle.hir_collector_state.specs.HirIds.declared.ast_id.EntryId.{EntryId};
+ghost use Rattle.hir_collector_state.specs.HirTables.Interning.{IsFull};
 ghost use Rattle.hir_collector_state.specs.HirTables.SourcePlaces.{expansion_value};
-ghost use Rattle.hir_collector_state.specs.HirTables.Tables.{KeepsTables};
+ghost use Rattle.hir_collector_state.specs.HirTables.Tables.{KeepsTables, call_at, entry_at};
 ghost use Rattle.hir_collector_state.specs.HirNameres.WorldParts.{part_of};
-ghost use Rattle.hir_collector_state.specs.HirCollectorRules.CallMoves.{SeesCall};
-ghost use Rattle.hir_collector_state.specs.HirCollectorRules.Calls.{AreCallsPlaced, Expanding, IsMeantCall, call_site, called_text, error_of, expansion_of_call, text_readings};
+ghost use Rattle.hir_collector_state.specs.HirCollectorRules.Calls.{AreCallsPlaced, InnerMacro, IsMeantCall, asked_first, call_key, call_kind, call_loc, call_site, called_text, error_of};
+ghost use Rattle.hir_collector_state.specs.HirCollectorRules.Calls.{expansion_of_call, first_missing, inner_macro, inner_readings, text_by, text_readings};
 ghost use Rattle.hir_collector_state.specs.HirCollectorRules.declared.macro_directive.MacroDirective.{MacroDirective};
 ghost use Rattle.hir_collector_state.specs.HirCollectorRules.ItemIds.{module_id};
 ghost use Rattle.hir_collector_state.specs.HirCollectorRules.Keys.{IsMeant, input_at, macro_key, macro_tree, source_in, text_at, text_of};
 ghost use Rattle.hir_collector_state.specs.HirCollectorRules.Moves.{Makes, OnceGrown};
-ghost use Rattle.hir_collector_state.specs.HirCollectorRules.NumberedOut.{LacksExpansion};
-ghost use Rattle.hir_collector_state.specs.HirCollectorRules.State.{core_in};
+ghost use Rattle.hir_collector_state.specs.HirCollectorRules.NumberedOut.{IsCallNumberedOut, LacksExpansion};
+ghost use Rattle.hir_collector_state.specs.HirCollectorRules.State.{core_in, with_asked};
 ghost use Rattle.hir_collector_state.specs.HirCollectorRules.Steps.{failing, keys_read, with_keys};
 ghost use Rattle.hir_collector_state.specs.HirCollectorRules.Workspace.{entry_look};
 ghost use Rattle.hir_collector_state.specs.Waiting.{IsNoted};
+ghost use Rattle.hir_call_expansion.specs.Looks.{IsLook, IsLookBehind, LacksBehind};
 
 use hir_base::ast_id::{AstId, AstKind, HirFileId, MacroCallId};
 use hir_base::ids::{Crate, HasModule};
 use hir_base::macro_kind::{CallStyle, ExpansionKey, MacroCallLoc, MacroId, MacroLoc, MacroText};
+use hir_base::mod_path::ModPath;
 use hir_base::text::Text;
 use hir_collector_state::def_collector::DefCollector;
+use hir_collector_state::hir_collector_rules::inner_paths::InnerPaths;
 use hir_collector_state::hir_collector_rules::macro_directive::MacroDirective;
 use hir_collector_state::hir_collector_rules::site::Site;
 use hir_collector_state::hir_collector_rules::source_database::{
     ExpansionLook, Key, SourceDatabase,
 };
-use hir_collector_state::hir_collector_rules::start::StepError;
+use hir_collector_state::hir_collector_rules::start::{CollectError, StepError};
+use hir_collector_state::hir_collector_start::called::is_eager;
 use hir_collector_state::hir_collector_start::sources::source_at;
 use hir_collector_state::hir_nameres::nameres::diagnostics::DefDiagnostic;
 use hir_collector_state::hir_nameres::world::part::WorldPart;
@@ -186,6 +197,101 @@ fn expansion_key(
     })
 }
 
+/// The same text, kept once more.
+fn copied(text: &MacroText) -> Result<MacroText, AllocError>
+    ensures value { IfOk result (λ t. t ≡ text.now) }
+{
+    Ok(MacroText {
+        krate: text.krate,
+        text: text.text.clone()?,
+    })
+}
+
+/// The key of a call's expansion once the paths that its macro asked for reach these macros.
+fn grown_key(key: &ExpansionKey, reached: Vec<MacroText>) -> Result<ExpansionKey, AllocError>
+    ensures value { IfOk result (λ grown. expansion_value grown ≡ record (expansion_value key.now) { reached = reached.items }) }
+{
+    Ok(ExpansionKey {
+        caller: key.caller,
+        called: copied(&key.called)?,
+        call: key.call,
+        input: key.input.clone()?,
+        reached,
+    })
+}
+
+/// The paths that a macro asks to have resolved before the call with this expansion is expanded.
+fn asked_first(makro: MacroId, look: ExpansionLook<'_>) -> Result<InnerPaths, AllocError>
+    ensures value { IfOk result (λ paths. paths ≡ asked_first makro (entry_look look.entry)) }
+{
+    match look.inner {
+        Some(paths) if is_eager(makro) => paths.clone(),
+        Some(_) | None => Ok(InnerPaths::none()),
+    }
+}
+
+/// The macros that paths reach in a module, if all reach some.
+fn reached_by(
+    run: &DefCollector,
+    world: WorldPart<'_>,
+    home: u32,
+    paths: &[ModPath],
+) -> Result<Option<Vec<MacroId>>, AllocError>
+    ensures reached { IfOk result (λ found. (macros : Vec MacroId Global) → found ≡ Some macros
+        → map (inner_macro (part_of world.entry) (core_in run.now).local (core_in run.now).map home) paths.now ≡ map (λ makro. Some makro) macros.items) }
+    ensures missing { IfOk result (λ found. found ≡ None → IsSome (first_missing (part_of world.entry) (core_in run.now).local (core_in run.now).map home paths.now)) }
+{
+    let mut macros = Vec::new(run.allocator());
+    for path in paths {
+        let Some(makro) = run.inner_macro(world, home, path) else {
+            return Ok(None);
+        };
+        macros.push(makro)?;
+    }
+    Ok(Some(macros))
+}
+
+/// Whether the sources that write macros have numbers.
+fn are_meant(locations: &Tables, macros: &[MacroId]) -> bool
+    ensures meant { result ≡ true → All (IsMeant locations.now) macros.now }
+    ensures unknown { result ≡ false → (makro : MacroId) × Contains macros.now makro × ¬ IsMeant locations.now makro }
+{
+    for makro in macros {
+        if !is_meant(locations, *makro) {
+            return false;
+        }
+    }
+    true
+}
+
+/// The macros with their texts, as keys of expansions have them.
+fn texts_of<D: SourceDatabase>(
+    run: &DefCollector,
+    db: &mut D,
+    world: WorldPart<'_>,
+    locations: &Tables,
+    macros: &[MacroId],
+) -> Result<Vec<MacroText>, AllocError>
+    ensures value { IfOk result (λ texts. texts.items ≡ map (λ makro. text_by (record {
+      makro = makro;
+      text =
+          called_text (part_of world.entry) (core_in run.now).map makro (text_at locations.now (D.workspace db.old) makro);
+    })) macros.now) }
+    ensures same { D.workspace db.new ≡ D.workspace db.old }
+{
+    let alloc = run.allocator();
+    let mut texts = Vec::new(alloc);
+    for makro in macros {
+        let told = called_text(run, db, world, locations, *makro)?;
+        let text = or_empty(alloc, told)?;
+        texts.push(MacroText {
+            krate: makro.module().map.krate,
+            text,
+        })?;
+    }
+    Ok(texts)
+}
+
 /// The error that a call is told with: that of its expansion, or that there is none.
 fn error_of(alloc: Global, look: ExpansionLook<'_>) -> Result<Option<Text>, AllocError>
     ensures value { IfOk result (λ error. error ≡ error_of (entry_look look.entry)) }
@@ -219,30 +325,56 @@ fn ask_text(run: &mut DefCollector, makro: MacroId) -> Result<(), AllocError>
     }
 }
 
-/// Asks for all that the expansion of a call depends on, and for the expansion.
-pub fn look_at_call<D: SourceDatabase>(
+/// Notes the texts of macros as asked for.
+fn ask_texts(run: &mut DefCollector, macros: &[MacroId]) -> Result<(), AllocError>
+    ensures ok { OnOk result ((inner : List InnerMacro) → map (λ i. i.makro) inner ≡ macros.now
+        → core_in run.new ≡ record (core_in run.old) { asked = with_keys (core_in run.old).asked (keys_read (inner_readings inner)) }) }
+    ensures noted { OnOk result (IsNoted run.old run.new) }
+{
+    for makro in macros {
+        ask_text(run, *makro)?;
+    }
+    Ok(())
+}
+
+/// Asks whether an expansion is there, and for what stands beside its items.
+fn ask_entry(
+    run: &mut DefCollector,
+    locations: &mut Tables,
+    key: ExpansionKey,
+) -> Result<(), StepError>
+    ensures kept { KeepsTables locations.old locations.new }
+    ensures calls { locations.new.calls ≡ locations.old.calls }
+    ensures ok { OnOk result ((entry : EntryId) × (entry_at locations.new entry ≡ Some (expansion_value key)) × (core_in run.new ≡ with_asked (core_in run.old) (Key.Expansion entry))) }
+    ensures noted { OnOk result (IsNoted run.old run.new) }
+    ensures many { result ≡ Err StepError.TooMany → IsFull locations.old.entries (expansion_value key) × (locations.new ≡ locations.old) }
+{
+    let asked = locations.intern_entry(key)?;
+    run.ask(Key::Expansion(asked))?;
+    Ok(())
+}
+
+/// Looks up the expansion of a call by its key, with the call's number, and asks for it.
+fn look_up<D: SourceDatabase>(
     run: &mut DefCollector,
     db: &mut D,
-    world: WorldPart<'_>,
     locations: &mut Tables,
     call: &MacroDirective,
-    makro: MacroId,
+    key: ExpansionKey,
 ) -> Result<Expansion, StepError>
     requires meant { IsMeantCall locations.old call.now }
-    requires known { IsMeant locations.old makro }
     ensures kept { KeepsTables locations.old locations.new }
     ensures same { D.workspace db.new ≡ D.workspace db.old }
     ensures placed { AreCallsPlaced locations.old → AreCallsPlaced locations.new }
-    ensures ok { IfOk result (λ e. (x : Expanding) × SeesCall locations.new (D.workspace db.old) (part_of world.entry) call.now makro (core_in run.old) (core_in run.new) x e.source.value
-        × (e.id ≡ x.id) × (e.error ≡ error_of x.there)) }
+    ensures ok { IfOk result (λ e. (entry : EntryId) × (entry_at locations.new entry ≡ Some (expansion_value key)) × (call_at locations.new e.id ≡ Some (call_loc call.now entry))
+        × (e.error ≡ error_of ((D.workspace db.old).entry (expansion_value key)))
+        × (e.source.value ≡ source_in locations.new (D.workspace db.old) (call_key (core_in run.old).map.id.krate e.id))
+        × (core_in run.new ≡ with_asked (with_asked (core_in run.old) (Key.Expansion entry)) (Key.Tree (call_key (core_in run.old).map.id.krate e.id)))) }
     ensures noted { OnOk result (IsNoted run.old run.new) }
-    ensures many { result ≡ Err StepError.TooMany → OnceGrown locations.new (D.workspace db.old) (λ env. LacksExpansion env (part_of world.entry) (core_in run.old).map call.now makro) }
+    ensures many { result ≡ Err StepError.TooMany → OnceGrown locations.new (D.workspace db.old) (λ env. IsCallNumberedOut env.tables (call_kind call.now) (expansion_value key)) }
 {
     let alloc = run.allocator();
     let krate = run.map().id().krate;
-    let text = called_text(run, db, world, locations, makro)?;
-    let input = input_at(alloc, db, locations, krate, call.ast_id)?;
-    let key = expansion_key(alloc, krate, call.call_style(), makro, text, input)?;
     let error = error_of(alloc, db.expansion(&key))?;
     let entry = locations.intern_entry(key)?;
     let id = locations.intern_call(MacroCallLoc {
@@ -257,11 +389,90 @@ pub fn look_at_call<D: SourceDatabase>(
         },
     };
     let source = source_at(alloc, db, locations, tree)?;
-    ask_text(run, makro)?;
-    run.ask(Key::Input(krate, call.ast_id))?;
     run.ask(Key::Expansion(entry))?;
     run.ask(Key::Tree(tree))?;
     Ok(Expansion { id, error, source })
+}
+
+/// What is found of a call that reaches a macro.
+#[derive(Drop)]
+pub enum CallLook {
+    Expands(Expansion),
+    /// Of these paths, which its macro asks for first, one reaches nothing.
+    Waits(InnerPaths),
+}
+
+/// Looks up the expansion of a call whose macro asks for paths first, if all of them reach macros.
+fn look_behind_paths<D: SourceDatabase>(
+    run: &mut DefCollector,
+    db: &mut D,
+    world: WorldPart<'_>,
+    locations: &mut Tables,
+    call: &MacroDirective,
+    key: ExpansionKey,
+    inner: InnerPaths,
+) -> Result<CallLook, CollectError>
+    requires meant { IsMeantCall locations.old call.now }
+    requires some { ¬ (inner ≡ []) }
+    ensures kept { KeepsTables locations.old locations.new }
+    ensures same { D.workspace db.new ≡ D.workspace db.old }
+    ensures placed { AreCallsPlaced locations.old → AreCallsPlaced locations.new }
+    ensures ok { IfOk result (λ look. IsLookBehind locations.new (D.workspace db.old) (part_of world.entry) call.now (expansion_value key) inner (core_in run.old) (core_in run.new) look) }
+    ensures noted { OnOk result (IsNoted run.old run.new) }
+    ensures many { result ≡ Err CollectError.TooMany → OnceGrown locations.new (D.workspace db.old)
+        (λ env. LacksBehind env (part_of world.entry) (core_in run.old) call.now (expansion_value key) inner) }
+    ensures unknown { result ≡ Err CollectError.UnknownSource → (path : Path) × (makro : MacroId)
+        × (inner_macro (part_of world.entry) (core_in run.old).local (core_in run.old).map call.now.site.home path ≡ Some makro) × ¬ IsMeant locations.new makro }
+{
+    let reached = reached_by(run, world, call.site.home, inner.as_slice())?;
+    let Some(macros) = reached else {
+        ask_entry(run, locations, key)?;
+        return Ok(CallLook::Waits(inner));
+    };
+    if !are_meant(locations, &macros) {
+        return Err(CollectError::UnknownSource);
+    }
+    let texts = texts_of(run, db, world, locations, &macros)?;
+    let grown = grown_key(&key, texts)?;
+    ask_entry(run, locations, key)?;
+    ask_texts(run, &macros)?;
+    Ok(CallLook::Expands(look_up(run, db, locations, call, grown)?))
+}
+
+/// Asks for all that the expansion of a call depends on, and for the expansion: where its macro asks for paths first, for
+/// that of the key with the macros that they reach.
+pub fn look_at_call<D: SourceDatabase>(
+    run: &mut DefCollector,
+    db: &mut D,
+    world: WorldPart<'_>,
+    locations: &mut Tables,
+    call: &MacroDirective,
+    makro: MacroId,
+) -> Result<CallLook, CollectError>
+    requires meant { IsMeantCall locations.old call.now }
+    requires known { IsMeant locations.old makro }
+    ensures kept { KeepsTables locations.old locations.new }
+    ensures same { D.workspace db.new ≡ D.workspace db.old }
+    ensures placed { AreCallsPlaced locations.old → AreCallsPlaced locations.new }
+    ensures ok { IfOk result (λ look. IsLook locations.new (D.workspace db.old) (part_of world.entry) call.now makro (core_in run.old) (core_in run.new) look) }
+    ensures noted { OnOk result (IsNoted run.old run.new) }
+    ensures many { result ≡ Err CollectError.TooMany → OnceGrown locations.new (D.workspace db.old)
+        (λ env. LacksExpansion env (part_of world.entry) (core_in run.old).local (core_in run.old).map call.now makro) }
+    ensures unknown { result ≡ Err CollectError.UnknownSource → (path : Path) × (inner : MacroId)
+        × (inner_macro (part_of world.entry) (core_in run.old).local (core_in run.old).map call.now.site.home path ≡ Some inner) × ¬ IsMeant locations.new inner }
+{
+    let alloc = run.allocator();
+    let krate = run.map().id().krate;
+    let text = called_text(run, db, world, locations, makro)?;
+    let input = input_at(alloc, db, locations, krate, call.ast_id)?;
+    let key = expansion_key(alloc, krate, call.call_style(), makro, text, input)?;
+    let inner = asked_first(makro, db.expansion(&key))?;
+    ask_text(run, makro)?;
+    run.ask(Key::Input(krate, call.ast_id))?;
+    if inner.as_slice().is_empty() {
+        return Ok(CallLook::Expands(look_up(run, db, locations, call, key)?));
+    }
+    look_behind_paths(run, db, world, locations, call, key, inner)
 }
 
 /// Where the items are written to which a call expands.

@@ -1,8 +1,10 @@
 -- Steps by which what waits is expanded, dropped, derived or given up, and by which imports rest.
-use Rattle.std.specs.Prelude.{IsSome, Bool, true, false, cond, option_map}
+use Rattle.std.specs.Prelude.{IsSome, Bool, true, false, Contains, cond, option_map, unwrap_or}
 use Rattle.std.specs.Option.{option_and_then}
 use Rattle.std.proofs.Common.{◌≡◌, ◌∙◌, ◌+◌, ℕ, ◌<◌, ◌≤◌, List, [], ◌∷◌, ◌++◌, length, slice_get, slice_set, Option, None, Some, inl, refl, sym, ap, subst}
 use Rattle.std.proofs.Common.{arith, append-nil}
+use Rattle.std.proofs.lemmas.List.Elements.{Contains-push}
+use Rattle.hir_collector_state.specs.HirBase.ModPath.{Path}
 use Rattle.either.specs.declared.Either.TheVariants as either
 use Rattle.hir_collector_state.specs.HirIds.Ids.{macro_module}
 use Rattle.hir_collector_state.specs.HirIds.contracts.ids.MapIdPartialEq.TheImpl as map_id
@@ -24,14 +26,17 @@ use Rattle.hir_collector_state.specs.HirDefMapRules.State.{MacroDataValue, Map, 
 use Rattle.hir_collector_state.specs.HirMapParts.declared.derive_helpers.DeriveHelper.{DeriveHelper}
 use Rattle.hir_collector_state.specs.HirImportRules.Rest.{IsAtRest}
 use Rattle.hir_collector_state.specs.HirCollectorRules.declared.start.TheConstants.{STEP_LIMIT}
+use Rattle.hir_collector_state.specs.HirCollectorRules.declared.macro_directive.EagerMacro.{EagerMacro}
 use Rattle.hir_collector_state.specs.HirCollectorRules.declared.macro_directive.Fate.{Fate}
 use Rattle.hir_collector_state.specs.HirCollectorRules.declared.macro_directive.MacroDirective.{MacroDirective}
 use Rattle.hir_collector_state.specs.HirCollectorRules.declared.site.Site.{Site}
+use Rattle.hir_collector_state.specs.HirCollectorRules.declared.source_database.Key.{Key}
 use Rattle.hir_collector_state.specs.HirCollectorRules.declared.macro_directive.WaitingItem.{WaitingItem}
 use Rattle.hir_collector_state.specs.HirCollectorRules.declared.macro_directive.Fate.TheVariants.{GivenUp, Handled, Waits}
-use Rattle.hir_collector_state.specs.HirCollectorRules.CallMoves.{NoneWaitsBefore, Rested, RestsTooFar, SeesCall, already, moved}
-use Rattle.hir_collector_state.specs.HirCollectorRules.Calls.{DerivedCall, Expanding, IsMeantAt, IsWaiting, LeadsNowhere}
-use Rattle.hir_collector_state.specs.HirCollectorRules.Calls.{call_site, error_of, helpers_brought, helpers_by}
+use Rattle.hir_collector_state.specs.HirCollectorRules.CallMoves.{NoneWaitsBefore, OnlyMeets, Rested, RestsTooFar, SeesCall, SeesEager, already, moved}
+use Rattle.hir_collector_state.specs.HirCollectorRules.Calls.{DerivedCall, EagerLook, Expanding, IsMeantAt, IsWaiting, LacksMacro, LeadsNowhere}
+use Rattle.hir_collector_state.specs.HirCollectorRules.Calls.{asked_first, call_site, eager_readings, error_of, helpers_brought, helpers_by, inner_macro}
+use Rattle.hir_collector_state.specs.HirCollectorRules.Calls.{is_inert_now, is_same_macro, lacks_inner}
 use Rattle.hir_collector_state.specs.HirCollectorRules.Calls.{helpers_of, item_kept, kept_of, waiting_item}
 use Rattle.hir_collector_state.specs.HirCollectorRules.Changes.{Change, act, helps, perform, with_derived}
 use Rattle.hir_collector_state.specs.HirCollectorRules.Derivation.{IsSpent, counted_out, numbered_out}
@@ -40,10 +45,11 @@ use Rattle.hir_collector_state.specs.HirCollectorRules.ItemIds.{module_id}
 use Rattle.hir_collector_state.specs.HirCollectorRules.Keys.{Environment, environment}
 use Rattle.hir_collector_state.specs.HirCollectorRules.NumberedOut.{LacksExpansion, lacks_call}
 use Rattle.hir_collector_state.specs.HirCollectorRules.Moves.{Makes, OnceGrown, Walks, WalksTooFar}
-use Rattle.hir_collector_state.specs.HirCollectorRules.State.{Core, State, Task, at_rest, behind, counted, import_state}
+use Rattle.hir_collector_state.specs.HirCollectorRules.State.{Core, State, Task, at_rest, behind, counted, eager_at, import_state}
 use Rattle.hir_collector_state.specs.HirCollectorRules.State.{joined, ticked, visit, visits, visits_over, with_fate}
-use Rattle.hir_collector_state.specs.HirCollectorRules.State.{with_map, with_settled}
-use Rattle.hir_collector_state.specs.HirCollectorRules.Steps.{CallsMacro, DerivesBuiltin, Expands, FallsBack, IsDeep, IsQuiet}
+use Rattle.hir_collector_state.specs.HirCollectorRules.State.{with_eager, with_map, with_settled}
+use Rattle.hir_collector_state.specs.HirCollectorRules.Steps.{CallsMacro, DerivesBuiltin, Expands, FallsBack, IsDeep, IsQuiet, MeetsEager, keys_read}
+use Rattle.hir_collector_state.specs.HirCollectorRules.Steps.{meets_macro, with_keys}
 use Rattle.hir_collector_state.specs.HirCollectorRules.Steps.{IsReachedDeep, May, MayRest, Numbered, Rule, Sees}
 use Rattle.hir_collector_state.specs.HirCollectorRules.Steps.{Skips, Step, Steps, bringing, derives_builtin, drops_call}
 use Rattle.hir_collector_state.specs.HirCollectorRules.Steps.{drops_reached, expands_call, failing, falls_back, none}
@@ -64,7 +70,7 @@ use Rattle.hir_collector_state.proofs.HirCollectorRules.Tried.{handled_stays}
 -- a call might be expanded, but that it or its expansion can't get a number
 pub spent_by_numbers : (tables : TablesValue) (w : Workspace) (finished : Maps) (c : Core) (i : ℕ) (d : MacroDirective) (makro : MacroId)
     → CallsMacro finished (at_rest c) i d makro → d.site.level < c.map.crate_data.recursion_limit
-    → OnceGrown tables w (λ env. LacksExpansion env finished c.map d makro)
+    → OnceGrown tables w (λ env. LacksExpansion env finished c.local c.map d makro)
     → OnceGrown tables w (λ env. IsSpent env finished (at_rest c))
 spent_by_numbers tables w finished c i d makro called shallow lacks = λ grown kept. record {
   at = at_rest c;
@@ -123,7 +129,7 @@ module _ (tables : TablesValue) (w : Workspace) (finished : Maps) (c asked : Cor
     (sees : SeesCall tables w finished d makro c asked x source) (called : CallsMacro finished (at_rest c) i d makro)
     (shallow : d.site.level < c.map.crate_data.recursion_limit) where
   may : Expands finished (at_rest c) i d makro x
-  may = record { called = called; shallow = shallow; text = sees.text }
+  may = record { called = called; shallow = shallow; text = sees.text; first = sees.first }
 
   abbrev items : List Task
   items = visits_over (call_site d x.id) x.tree.tree.items
@@ -270,6 +276,56 @@ module _ (tables : TablesValue) (w : Workspace) (finished : Maps) (c asked : Cor
             let on : Walks (environment later v) finished new last (visits_at source.tree site (numbers_of ids)) = walks later (tables_stay later) in
             handled_stays (on.steps []) i fate_now
 
+-- ---- a call meets an eager macro, and waits for a path
+
+module _ (tables : TablesValue) (w : Workspace) (finished : Maps) (c asked met new : Core) (i : ℕ) (d : MacroDirective) (makro : MacroId) (x : EagerLook)
+    (sees : SeesEager tables w finished d makro c asked x) (called : CallsMacro finished (at_rest c) i d makro)
+    (shallow : d.site.level < c.map.crate_data.recursion_limit) (path : Path) (among : Contains (asked_first makro x.there) path)
+    (missing : inner_macro finished c.local c.map d.site.home path ≡ None)
+    (meets : met ≡ with_eager asked i (record { makro = makro; inner = asked_first makro x.there })) (ticks : new ≡ counted met) where
+  abbrev note : EagerMacro
+  note = record { makro = makro; inner = asked_first makro x.there }
+
+  may_meet : MeetsEager finished (at_rest c) i d makro x
+  may_meet = record { called = called; shallow = shallow; text = sees.text; path = path; asked = among; missing = missing }
+
+  abbrev asked_keys : List Key
+  asked_keys = with_keys c.asked (keys_read (eager_readings c.map.id.krate d makro x))
+
+  abbrev later : Core
+  later = counted (with_eager (record c { asked = asked_keys }) i note)
+
+  is_met : new ≡ later
+  is_met = ticks ∙ ap counted (meets ∙ ap (λ (a : Core). with_eager a i note) sees.asked)
+
+  -- one step
+  pub meets_step : OnceGrown tables w (λ env. Step env finished (at_rest c) (at_rest new))
+  meets_step = λ grown kept. made (meets_macro i d makro x) may_meet (sees.sees grown kept finished) (sees.numbered grown kept) (ap at_rest is_met)
+
+  -- nothing else was done
+  pub only_meets : OnlyMeets c new
+  only_meets = record { eager = slice_set c.eager i (eager_at c i ++ note ∷ []); asked = asked_keys; count = c.count + 1; is = is_met }
+
+  -- it leads nowhere
+  pub meets_nowhere : i < length c.eager → is_same_macro makro makro ≡ true → LeadsNowhere finished (at_rest new) i
+  meets_nowhere inside itself =
+      subst (λ (n : Core). LeadsNowhere finished (at_rest n) i) (sym is_met) (record {
+        shallow = λ e waiting call. subst (λ (y : MacroDirective). y.site.level < c.map.crate_data.recursion_limit) (same e waiting.call) shallow;
+        nowhere = λ e waiting. subst (LacksMacro finished later i) (same e waiting.call) lacks;
+        active = λ e waiting. subst (λ (y : MacroDirective). is_inert_now c.map y ≡ false) (same e waiting.call) called.active;
+      })
+    where
+      same : (e : MacroDirective) → slice_get c.calls i ≡ Some e → d ≡ e
+      same e at = let first : slice_get c.calls i ≡ Some d = called.due.waiting.call in cc
+
+      noted : Contains (eager_at later i) note
+      noted =
+          subst (λ (o : Option (List EagerMacro)). Contains (unwrap_or o []) note)
+          (sym (get_set_same c.eager i (eager_at c i ++ note ∷ []) inside)) (Contains-push (eager_at c i) note)
+
+      lacks : LacksMacro finished later i d
+      lacks = lacks_inner makro note path called.reaches noted itself among missing
+
 -- ---- what waits is dropped, or stands for an impl, and imports rest
 
 module _ (env : Environment) (finished : Maps) (c : Core) where
@@ -333,12 +389,13 @@ module _ (env : Environment) (finished : Maps) (c : Core) where
 
   pub given_up : (i : ℕ) (d : MacroDirective) (k : WaitingItem) (item : KeptItem) (ended told new : Core) → FallsBack finished (at_rest c) i d k item → ended
       ≡ with_fate c i GivenUp
-      → told ≡ with_map ended (with_diagnostic ended.map (call_report c.map.id d)) → new ≡ counted told → Step env finished (at_rest c)
+      → told ≡ with_map ended (with_diagnostic ended.map (call_report finished c.local c.map d (eager_at c i))) → new ≡ counted told → Step env finished (at_rest c)
       (joined new (visits (visit_behind d k item) ∷ []))
   given_up i d k item ended told new may handled is_told ticks =
       made (falls_back i d k item) may tt tt
       (ap (λ (n : Core). joined n (visits (visit_behind d k item) ∷ []))
-      (ticks ∙ ap counted (is_told ∙ ap (λ (e : Core). with_map e (with_diagnostic e.map (call_report c.map.id d))) handled)))
+      (ticks ∙ ap counted (is_told
+      ∙ ap (λ (e : Core). with_map e (with_diagnostic e.map (call_report finished c.local c.map d (eager_at c i)))) handled)))
 
   -- it may be where imports rest, nothing that waits reaches anything, and no attribute waits before it
   pub falls_back_at : (i : ℕ) (d : MacroDirective) (k : WaitingItem) (item : KeptItem) → IsAtRest finished (import_state (at_rest c))

@@ -99,7 +99,7 @@ impl SourceDatabase for Crates {
         ExpansionLook {
             present: false,
             error: None,
-            inner: &[],
+            inner: None,
         }
     }
 }

@@ -40,7 +40,8 @@ use Rattle.hir_collector_rules.specs.Changes.{Change, lists, makes, gives_varian
 use Rattle.hir_collector_rules.specs.Changes.{takes_textual, defines, describes, helps, lists_derive, notes, exports, uses_macros, tells, goes_on, act, on_map}
 use Rattle.hir_collector_rules.specs.Changes.{perform, with_builtin_derive}
 use Rattle.hir_collector_rules.specs.Invocations.{with_invocation}
-use Rattle.hir_collector_rules.specs.Steps.{Rule, drops_item, awaits_attribute, lists_derives, faults_derive, exports_macro, reaches_call, rests, expands_call}
+use Rattle.hir_collector_rules.specs.Steps.{Rule, drops_item, awaits_attribute, lists_derives, faults_derive, exports_macro, reaches_call, rests}
+use Rattle.hir_collector_rules.specs.Steps.{expands_call, meets_macro}
 use Rattle.hir_collector_rules.specs.Steps.{drops_call, drops_reached, derives_builtin, skips_attribute, falls_back, defines_rules, defines_macro}
 use Rattle.hir_collector_rules.specs.Steps.{closes_module, declares_item, declares_enum, lists_constant, lists_impl, opens_module, opens_file, drops_file}
 use Rattle.hir_collector_rules.specs.Steps.{misses_file, enters_block, reaches_imports, reaches_crate, resolves_imports, May, acts, after, asking, Step, Steps}
@@ -55,6 +56,7 @@ use Rattle.hir_collector_rules.proofs.Lists.{length_both, length_mapped, length_
 use Rattle.hir_collector_rules.proofs.Meaning.{CallsMeant, IsAllMeant, call_meant, meant-Step, meant-begun}
 use Rattle.hir_collector_rules.proofs.Moves.{Steps-one}
 use Rattle.hir_collector_rules.proofs.ModuleFiles.{site_kept, source_kept}
+use Rattle.hir_collector_rules.proofs.Eager.{keeps_eager}
 use Rattle.hir_collector_rules.proofs.Tried.{fates_paired}
 
 -- ---- what globs brought and what imports were taken for, where the map grows
@@ -197,6 +199,7 @@ only_declares finished s (defines_macro site head name expander helpers rest) =
     declares (tt, (tt, (tt, (tt, (tt, fine_reporting OnlyDeclares _ _ expander (λ t. tt) _)))))
 only_declares finished s (lists_derives v at a adt paths call rest) = declares (tt, (tt, (tt, tt)))
 only_declares finished s (exports_macro site head name d e rest) = declares (tt, (tt, (tt, (tt, (tt, (tt, (tt, tt)))))))
+only_declares finished s (meets_macro i d makro x) = declares (tt, tt)
 only_declares finished s rests = declares (tt, tt)
 only_declares finished s (expands_call i d makro x) =
     declares (tt, (tt, (tt, fine_expanding OnlyDeclares _ (λ t helper. tt) _ _ d (error_of x.there) (λ t text. tt) _)))
@@ -258,6 +261,7 @@ record IsPoised (tables : TablesValue) (finished : Maps) (s : State) : Type 0 wh
   steady : IsSteady finished s
   inside : IsInRange s
   fated : length s.core.fates ≡ length s.core.calls
+  listed : length s.core.eager ≡ length s.core.calls
   meant : IsAllMeant tables s
   in_order : IsInOrder s.core.map
 
@@ -267,6 +271,7 @@ poised-Step {tables = tables} {finished = finished} {old = old} step p = record 
   steady = subst (IsSteady finished) (sym step.is) (rule_steady finished old step.rule step.may p.inside p.steady);
   inside = in_range-Step step p.inside;
   fated = fates_paired (Steps-one step) p.fated;
+  listed = (keeps_eager (Steps-one step)).listed p.listed;
   meant = meant-Step tables step p.meant;
   in_order = in_order_Step step p.inside p.in_order;
 }
@@ -298,6 +303,7 @@ module _ (tables : TablesValue) (finished : Maps) (c : Core) where
     inside =
         record { visits = tt; imports = imports_below (length c.map.modules) c.reached r.imports; calls = calls_below (length c.map.modules) c.calls r.calls };
     fated = r.fated;
+    listed = r.listed;
     meant = record { visits = tt; calls = calls_meant tables c.calls r.meant };
     in_order = r.in_order;
   }
@@ -308,6 +314,7 @@ module _ (tables : TablesValue) (finished : Maps) (c : Core) where
     imports = λ i r at. import_at (length c.map.modules) c.reached i r p.inside.imports at;
     paired = p.steady.paired;
     fated = p.fated;
+    listed = p.listed;
     calls = λ i d at. call_below (length c.map.modules) c.calls i d p.inside.calls at;
     meant = λ i d at. call_meant tables c.calls i d p.meant.calls at;
     in_order = p.in_order;
@@ -325,6 +332,7 @@ ready_grown {tables = tables} {grown = grown} kept r = record {
   imports = r.imports;
   paired = r.paired;
   fated = r.fated;
+  listed = r.listed;
   calls = r.calls;
   meant = λ i d at.
       let meant : IsMeantCall tables d = r.meant i d at in
@@ -351,6 +359,7 @@ ready_start tables w finished transitive holders start id c there steps = ready_
       };
       inside = in_range-begun tables w finished transitive holders start id;
       fated = refl;
+      listed = refl;
       meant = meant-begun tables w finished transitive holders start id there;
       in_order =
           root_in_order (began tables w finished transitive holders start id).core.map (new_module (origin_of start) (root_visibility start) None) refl refl;

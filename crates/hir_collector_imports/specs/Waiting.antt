@@ -1,5 +1,5 @@
 -- Which calls and imports wait in queues, and when is it in vain to try them?
-use Rattle.std.specs.Prelude.{◌≡◌, ◌≢◌, ℕ, ◌<◌, ◌≤◌, true, false, [], ◌∷◌, List, Option, None, Some, length, option_map}
+use Rattle.std.specs.Prelude.{◌≡◌, ◌≢◌, ℕ, ◌<◌, ◌≤◌, true, false, Contains, [], ◌∷◌, List, Option, None, Some, length, option_map}
 use Rattle.hir_collector_state.specs.HirIds.declared.ast_id.AstId.{AstId}
 use Rattle.hir_collector_state.specs.HirDefMapRules.Overlay.{Maps}
 use Rattle.hir_collector_state.specs.HirNameres.declared.nameres.path_resolution.slots.Slot.{Slot as PathSlot}
@@ -17,10 +17,11 @@ use Rattle.hir_import_resolution.specs.declared.import_queue.ImportQueue.{Import
 use Rattle.hir_collector_state.specs.HirImportRules.Changed.{ChangedValue, everything, joined, with_slot}
 use Rattle.hir_call_queue.specs.Waking.{attributes_of, is_apart, watchers_of, watches_item, worklist_of}
 use Rattle.hir_call_queue.specs.declared.queue.CallQueue.{CallQueue}
+use Rattle.hir_collector_rules.specs.declared.macro_directive.EagerMacro.{EagerMacro}
 use Rattle.hir_collector_rules.specs.declared.macro_directive.MacroDirective.{MacroDirective}
-use Rattle.hir_collector_rules.specs.Calls.{IsWaiting, called_macro, is_call, is_inert_now, waiting_item}
+use Rattle.hir_collector_rules.specs.Calls.{IsWaiting, LacksMacro, is_call, is_inert_now, waiting_item}
 use Rattle.hir_collector_state.specs.Waiting.{NotesSlots, StandsStill}
-use Rattle.hir_collector_rules.specs.State.{Core, Run, at_rest, core_in, import_state}
+use Rattle.hir_collector_rules.specs.State.{Core, Run, at_rest, core_in, eager_at, import_state}
 
 -- ---- what globs change
 
@@ -40,18 +41,17 @@ noted_along (s ∷ ss) c = noted_along ss (noted_name s.at (name_of s.key) c)
 abbrev pub item_of : MacroDirective → Option AstId
 item_of d = option_map (λ k. d.ast_id) (waiting_item d)
 
--- a queue is up to date with where a run stands: what isn't queued is no call that is too deep, reaches no macro, isn't inert, and watches what it has seen, an attribute besides the item that it stands on; one that is being tried aside
+-- a queue is up to date with where a run stands: what isn't queued is no call that is too deep, reaches no macro with all that this asks for first, isn't inert, and watches what it has seen, an attribute besides the item that it stands on; one that is being tried aside
 pub record IsUpToDate (finished : Maps) (q : CallQueue) (c : Core) (tried : Option ℕ) : Type 0 where
   pub seen : ℕ → List PathSlot
   pub watched : is_apart q ≡ true → AreWatched slot_cmp seen tried (worklist_of q) (watchers_of q)
   pub stands : is_apart q ≡ true → (p : ℕ) (d : MacroDirective) → IsIdle (worklist_of q) p → tried ≢ Some p → IsWaiting (at_rest c) p d
-      → StandsStill finished c d (seen p)
+      → StandsStill finished c p d (seen p)
   pub on_items : is_apart q ≡ true → (p : ℕ) (d : MacroDirective) → IsIdle (worklist_of q) p → tried ≢ Some p → IsWaiting (at_rest c) p d
       → (item : AstId) → item_of d ≡ Some item → watches_item (attributes_of q) item p ≡ true
   pub shallow : (p : ℕ) (d : MacroDirective) → IsIdle (worklist_of q) p → tried ≢ Some p → IsWaiting (at_rest c) p d → is_call d ≡ true
       → d.site.level < c.map.crate_data.recursion_limit
-  pub nowhere : (p : ℕ) (d : MacroDirective) → IsIdle (worklist_of q) p → tried ≢ Some p → IsWaiting (at_rest c) p d → called_macro finished c.local c.map d
-      ≡ None
+  pub nowhere : (p : ℕ) (d : MacroDirective) → IsIdle (worklist_of q) p → tried ≢ Some p → IsWaiting (at_rest c) p d → LacksMacro finished c p d
   pub active : (p : ℕ) (d : MacroDirective) → IsIdle (worklist_of q) p → tried ≢ Some p → IsWaiting (at_rest c) p d → is_inert_now c.map d ≡ false
   -- it has calls of the run, and none is finished
   pub unfinished : (p : ℕ) → p < count_of (worklist_of q) → is_unfinished (worklist_of q) p ≡ true
@@ -62,8 +62,9 @@ pub record IsBetweenPasses (q : CallQueue) : Type 0 where
   pub over : (worklist_of q).current ≡ []
   pub outside : (worklist_of q).end ≡ 0
 
--- calls stay, and one that waits waited before
+-- calls stay, and one that waits waited before; what eager macros asked for is kept
 pub record KeepsWaiting (old new : Core) : Type 0 where
+  pub eager : (p : ℕ) (seen : EagerMacro) → Contains (eager_at old p) seen → Contains (eager_at new p) seen
   pub longer : length old.calls ≤ length new.calls
   pub before : (p : ℕ) (d : MacroDirective) → p < length old.calls → IsWaiting (at_rest new) p d → IsWaiting (at_rest old) p d
 

@@ -93,6 +93,7 @@ pub(crate) fn with_changes_spread(
         taken: imports.taken,
         calls: run.calls,
         fates: run.fates,
+        eager: run.eager,
         settled: run.settled,
         is_proc_macro: run.is_proc_macro,
         exported: run.exported,

@@ -16,7 +16,7 @@ use Rattle.hir_collector_rules.specs.declared.source_database.Key.TheVariants as
 use Rattle.hir_tables.specs.Tables.{TablesValue}
 use Rattle.hir_mod_dir.specs.ModuleFiles.{candidates_of}
 use Rattle.hir_collector_rules.specs.Workspace.{Workspace}
-use Rattle.hir_collector_rules.specs.Causes.{IsCandidate, IsOfCall}
+use Rattle.hir_collector_rules.specs.Causes.{IsCandidate, IsOfCall, IsOfEager}
 use Rattle.hir_collector_rules.specs.ModuleFiles.{IsNumbered, Search}
 use Rattle.hir_collector_rules.specs.Keys.{Environment, environment}
 use Rattle.hir_collector_rules.specs.State.{State, Task}
@@ -24,7 +24,8 @@ use Rattle.hir_collector_rules.specs.ItemIds.{enum_id}
 use Rattle.hir_collector_rules.specs.Items.{own_visibility}
 use Rattle.hir_collector_rules.specs.Changes.{changes_imports, gives_variants, goes_on, lists, perform}
 use Rattle.hir_collector_rules.specs.Enums.{variants_of}
-use Rattle.hir_collector_rules.specs.Steps.{Rule, drops_item, awaits_attribute, lists_derives, faults_derive, exports_macro, reaches_call, rests, expands_call}
+use Rattle.hir_collector_rules.specs.Steps.{Rule, drops_item, awaits_attribute, lists_derives, faults_derive, exports_macro, reaches_call, rests}
+use Rattle.hir_collector_rules.specs.Steps.{expands_call, meets_macro}
 use Rattle.hir_collector_rules.specs.Steps.{drops_call, drops_reached, derives_builtin, skips_attribute, falls_back, defines_rules, defines_macro}
 use Rattle.hir_collector_rules.specs.Steps.{closes_module, declares_item, declares_enum, lists_constant, lists_impl, opens_module, opens_file, drops_file}
 use Rattle.hir_collector_rules.specs.Steps.{misses_file, enters_block, reaches_imports, reaches_crate, resolves_imports, LooksFor, May, Numbered, Sees, after}
@@ -74,12 +75,15 @@ pub data IsAskedFor (tables : TablesValue) (w : Workspace) (finished : Maps) (fr
       → IsAskedFor tables w finished from to key
   of_call : (at : State) → Steps (environment tables w) finished from at → Steps (environment tables w) finished at to → IsOfCall tables w finished at key
       → IsAskedFor tables w finished from to key
+  of_eager : (at : State) → Steps (environment tables w) finished from at → Steps (environment tables w) finished at to → IsOfEager tables w finished at key
+      → IsAskedFor tables w finished from to key
 
 -- what a rule reads is of an enum that it lists, of a candidate, or of a call
 data IsRead (tables : TablesValue) (w : Workspace) (finished : Maps) (s : State) (r : Rule) (key : Key) : Type 0 where
   enum_read : IsOfListed (after finished s r).core.map key → IsRead tables w finished s r key
   file_read : IsCandidate tables w s key → IsRead tables w finished s r key
   call_read : IsOfCall tables w finished s key → IsRead tables w finished s r key
+  eager_read : IsOfEager tables w finished s key → IsRead tables w finished s r key
 
 module _ (tables : TablesValue) (w : Workspace) (finished : Maps) (s : State) where
   searched : (site : Site) (head : Head) (name : List ℕ) (search : Search) (rest : List Task) → LooksFor s site head name search rest
@@ -116,6 +120,8 @@ module _ (tables : TablesValue) (w : Workspace) (finished : Maps) (s : State) wh
       → IsRead tables w finished s r key
   caused (expands_call i d makro x) may sees numbered p key h =
       call_read (record { place = i; call = d; makro = makro; expands = may; seen = x; numbered = numbered; sees = sees; among = h })
+  caused (meets_macro i d makro x) may sees numbered p key h =
+      eager_read (record { place = i; call = d; makro = makro; meets = may; seen = x; numbered = numbered; sees = sees; among = h })
   caused (declares_enum site head name found rest) may sees numbered p key h =
       let m : Map = s.core.map in
       let id : EnumId = enum_id m site head.id in
@@ -147,12 +153,14 @@ asked_before : {tables : TablesValue} {w : Workspace} {finished : Maps} {from ol
 asked_before step (of_enum_listed p) = of_enum_listed (IsOfListed-Grows (Grows-Step step) p)
 asked_before {old = old} {new = new} step (of_candidate at before after p) = of_candidate at before (more old new after step) p
 asked_before {old = old} {new = new} step (of_call at before after p) = of_call at before (more old new after step) p
+asked_before {old = old} {new = new} step (of_eager at before after p) = of_eager at before (more old new after step) p
 
 asked_now : {tables : TablesValue} {w : Workspace} {finished : Maps} {from old new : State} {key : Key} → Steps (environment tables w) finished from old
     → (step : Step (environment tables w) finished old new) → IsRead tables w finished old step.rule key → IsAskedFor tables w finished from new key
 asked_now {key = key} before step (enum_read p) = of_enum_listed (subst (λ (s : State). IsOfListed s.core.map key) (sym step.is) p)
 asked_now {old = old} {new = new} before step (file_read p) = of_candidate old before (more old new none step) p
 asked_now {old = old} {new = new} before step (call_read p) = of_call old before (more old new none step) p
+asked_now {old = old} {new = new} before step (eager_read p) = of_eager old before (more old new none step) p
 
 -- what was asked for in the end was so at first, or is of an enum that a module lists, of a candidate or of a call
 pub asked_by : {tables : TablesValue} {w : Workspace} {finished : Maps} {from to : State} → IsInRange from → Steps (environment tables w) finished from to

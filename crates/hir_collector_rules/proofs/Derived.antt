@@ -32,14 +32,15 @@ use Rattle.hir_collector_rules.specs.Start.{Beginning, began, begin_of, data_bes
 use Rattle.hir_collector_rules.specs.Start.{root_tree, start_by, start_data}
 use Rattle.hir_collector_rules.specs.Steps.{Sees, Step, Steps, none, more, keys_read, reads}
 use Rattle.hir_collector_rules.specs.Causes as causes
-use Rattle.hir_collector_rules.specs.Derivation.{BindsWhatItReaches, CollectedValue, Ends, IsLinked, finished_run}
+use Rattle.hir_collector_rules.specs.Derivation.{BindsWhatItReaches, CollectedValue, Ends, IsLinked, finished_run, leftover_reports}
+use Rattle.hir_collector_rules.specs.Reports.{with_diagnostics}
 use Rattle.hir_collector_rules.proofs.Lists.{get_inside, get_there}
 use Rattle.hir_collector_rules.proofs.Bound.{AreAmong-trans}
 use Rattle.hir_collector_rules.proofs.Kept.{AreAmong-by_kind}
 use Rattle.hir_collector_rules.proofs.Changes.{asked-Step, data-Steps, id-Steps}
 use Rattle.hir_collector_rules.proofs.InRange.{IsInRange}
 use Rattle.hir_collector_rules.proofs.Holds.{Holds, Holds-start, Holds-Steps, in_range-start}
-use Rattle.hir_collector_rules.proofs.Asks.{IsAskedFor, of_call, of_candidate, of_enum_listed, asked_by, still_asked, still_asked-Step}
+use Rattle.hir_collector_rules.proofs.Asks.{IsAskedFor, of_call, of_candidate, of_eager, of_enum_listed, asked_by, still_asked, still_asked-Step}
 use Rattle.hir_collector_rules.proofs.Asked.{Alike, head_or_later, of_behind, own_config, same_dependencies, same_holders, same_read, same_tree}
 use Rattle.hir_collector_rules.proofs.ModuleFiles.{Numbered-kept}
 use Rattle.hir_collector_rules.proofs.Moves.{Steps-append}
@@ -187,7 +188,7 @@ start_dependencies finished tree transitive (starts.Block krate block holder at)
 
 module _ (tables : TablesValue) (v : Workspace) (before : Maps) (from : Beginning) (last : State) (limited : Bool) (answer : CollectedValue)
     (steps : Steps (environment tables v) (read_by v before from.start) (begin_of tables v before from) last)
-    (is : answer ≡ finished_run last.core limited (transitive_dependencies_in v (krate_of from.start))) where
+    (is : answer ≡ finished_run (read_by v before from.start) last.core limited (transitive_dependencies_in v (krate_of from.start))) where
   abbrev c : Core
   c = last.core
 
@@ -296,6 +297,7 @@ module _ (tables : TablesValue) (v : Workspace) (before : Maps) (from : Beginnin
     caused_by key (of_enum_listed p) = causes.declared_enum p.home p.id p.listed p.is
     caused_by key (of_candidate at before after p) = causes.candidate at (record { before = before; after = after }) p
     caused_by key (of_call at before after p) = causes.of_call at (record { before = before; after = after }) p
+    caused_by key (of_eager at before after p) = causes.of_eager at (record { before = before; after = after }) p
 
     caused_asked : (key : Key) → Contains c.asked key → causes.HasCause grown w finished from last key
     caused_asked key h = elim (asked_by (begun_in_range grown w finished) derived_over key h) [
@@ -340,7 +342,9 @@ module _ (tables : TablesValue) (v : Workspace) (before : Maps) (from : Beginnin
           unwaiting = λ whole. rests.unwaiting (sym limited_is ∙ whole);
           limited = λ cut. many_over (rests.many (sym limited_is ∙ cut));
           own = ap (λ (a : CollectedValue). a.map.id) is ∙ ended_id c ∙ id-Steps steps;
-          map_is = ap (λ (a : CollectedValue). a.map) is;
+          map_is =
+              ap (λ (a : CollectedValue). a.map) is
+              ∙ ap (λ (maps : Maps). with_diagnostics (ended c) (leftover_reports maps c)) (sym reads_same);
           local_is = ap (λ (a : CollectedValue). a.local) is;
           leftover_is = ap (λ (a : CollectedValue). a.leftover) is;
           asked_is = keys_are ∙ ap (λ (crates : List Crate). c.asked ++ keys_behind krate crates) (sym transitive_same);
@@ -375,7 +379,7 @@ module _ (tables : TablesValue) (w : Workspace) (finished : Maps) (from : Beginn
   pub ends_from : (run last : Core) (limited : Bool) (answer : CollectedValue) → Steps (environment tables w) part
       (began tables w part transitive holders from.start from.tree) (at_rest run)
       → Steps (environment tables w) part (at_rest run) (at_rest last) → ComesToRest (environment tables w) part run last limited → answer
-      ≡ finished_run last limited transitive
+      ≡ finished_run part last limited transitive
       → (v : Workspace) (maps : Maps) → AgreeOn tables answer.asked w finished v maps → Ends tables v maps from answer
   ends_from run last limited answer before after comes is v maps agrees =
       let whole : Steps (environment tables w) (read_by w finished from.start) (begin_of tables w finished from) (at_rest run) =
@@ -387,7 +391,8 @@ module _ (tables : TablesValue) (w : Workspace) (finished : Maps) (from : Beginn
       (Holds-start tables w (read_by w finished from.start) (holders_by finished from.start) from) in
       let rests : ComesToRest (environment tables w) (read_by w finished from.start) run last limited =
       subst (λ (read : Maps). ComesToRest (environment tables w) read run last limited) read_whole comes in
-      ends_over tables w finished from (at_rest last) limited answer steps (is ∙ ap (finished_run last limited) depends) agrees refl
+      ends_over tables w finished from (at_rest last) limited answer steps (is ∙ ap (λ (read : Maps). finished_run read last limited transitive) read_whole
+      ∙ ap (finished_run (read_by w finished from.start) last limited) depends) agrees refl
       (rests_at (environment tables w) (read_by w finished from.start) (begin_of tables w finished from) run last limited holds whole rests)
 
 -- a crate that isn't there depends on none

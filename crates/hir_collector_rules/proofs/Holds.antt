@@ -29,9 +29,11 @@ use Rattle.hir_collector_rules.specs.Calls.{error_of}
 use Rattle.hir_collector_rules.specs.Keys.{Environment, tree_at}
 use Rattle.hir_collector_rules.specs.State.{State, import_state, visits_over}
 use Rattle.hir_collector_rules.specs.Start.{Beginning, began, is_declared, krate_of, start_of, root_site, tree_key, tree_visits}
-use Rattle.hir_collector_rules.specs.Changes.{Change, lists, makes, gives_variants, begins_paths, reaches, awaits, ends, settles, changes_imports, adds_textual}
+use Rattle.hir_collector_rules.specs.Changes.{Change, lists, makes, gives_variants, begins_paths, reaches, awaits, ends, meets_eager, settles}
+use Rattle.hir_collector_rules.specs.Changes.{changes_imports, adds_textual}
 use Rattle.hir_collector_rules.specs.Changes.{takes_textual, defines, describes, helps, lists_derive, notes, exports, uses_macros, tells, goes_on, act, on_map}
-use Rattle.hir_collector_rules.specs.Steps.{Rule, drops_item, awaits_attribute, lists_derives, faults_derive, exports_macro, reaches_call, rests, expands_call}
+use Rattle.hir_collector_rules.specs.Steps.{Rule, drops_item, awaits_attribute, lists_derives, faults_derive, exports_macro, reaches_call, rests}
+use Rattle.hir_collector_rules.specs.Steps.{expands_call, meets_macro}
 use Rattle.hir_collector_rules.specs.Steps.{drops_call, drops_reached, derives_builtin, skips_attribute, falls_back, defines_rules, defines_macro}
 use Rattle.hir_collector_rules.specs.Steps.{closes_module, declares_item, declares_enum, lists_constant, lists_impl, opens_module, opens_file, drops_file}
 use Rattle.hir_collector_rules.specs.Steps.{misses_file, enters_block, reaches_imports, reaches_crate, resolves_imports, May, acts, asking, Step, Steps, none}
@@ -155,6 +157,8 @@ Holds-act s (begins_paths r) h fine = record { paired = h.paired; bound = λ i t
 Holds-act s (reaches rs) h fine = Holds-reaches s rs h
 Holds-act s (awaits calls) h fine = record { paired = h.paired; bound = λ i t at. same_bound s (act s (awaits calls)) refl refl i t (h.bound i t at) }
 Holds-act s (ends i fate) h fine = record { paired = h.paired; bound = λ j t at. same_bound s (act s (ends i fate)) refl refl j t (h.bound j t at) }
+Holds-act s (meets_eager i seen) h fine =
+    record { paired = h.paired; bound = λ j t at. same_bound s (act s (meets_eager i seen)) refl refl j t (h.bound j t at) }
 Holds-act s settles h fine = record { paired = h.paired; bound = λ i t at. same_bound s (act s settles) refl refl i t (h.bound i t at) }
 Holds-act s (changes_imports c) h fine = Holds-imports s c h fine
 Holds-act s (adds_textual home name makro) h fine = Holds-grown s _ (Grows-act s (adds_textual home name makro)) h
@@ -269,6 +273,7 @@ takes_what_is_bound finished s (exports_macro site head name d e rest) may p h =
 takes_what_is_bound finished s rests may p h = (tt, tt)
 takes_what_is_bound finished s (expands_call i d makro x) may p h =
     (tt, (tt, (tt, fine_expanding TakesWhatIsBound _ (λ t helper. tt) _ _ d (error_of x.there) (λ t text. tt) _)))
+takes_what_is_bound finished s (meets_macro i d makro x) may p h = (tt, tt)
 takes_what_is_bound finished s (drops_call i d) may p h = (tt, tt)
 takes_what_is_bound finished s (drops_reached i d makro) may p h = (tt, fine_bringing TakesWhatIsBound _ (λ t helper. tt) _ _)
 takes_what_is_bound finished s (derives_builtin i d makro imp) may p h = (tt, (tt, (tt, fine_bringing TakesWhatIsBound _ (λ t helper. tt) _ _)))

@@ -10,6 +10,7 @@ pub mod Moves
 pub mod InRange
 pub mod Holds
 pub mod Tried
+pub mod Eager
 pub mod ModuleFiles
 pub mod Asks
 pub mod Dependencies

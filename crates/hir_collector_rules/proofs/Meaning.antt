@@ -2,9 +2,10 @@
 use Rattle.std.proofs.Common.{◌≡◌, ◌∙◌, ◌<◌, ◌+◌, ℕ, zero, suc, Bool, true, false, ◌||◌, List, []}
 use Rattle.std.proofs.Common.{◌∷◌, ◌++◌, length, slice_get, Option, Some, None, inl, inr, refl}
 use Rattle.std.proofs.Common.{sym, ap, subst, arith, append_assoc, Contains}
+use Rattle.std.specs.List.{All}
 use Rattle.std.specs.Option.{option_and_then}
 use Rattle.std.specs.Prelude.{IsSome, option_map}
-use Rattle.std.proofs.lemmas.List.Elements.{Contains-append_cases}
+use Rattle.std.proofs.lemmas.List.Elements.{All-head, All-tail, Contains-append_cases}
 use Rattle.hir_nameres.specs.HirBase.ModPath.{Path}
 use Rattle.hir_nameres.specs.HirIds.declared.ids.AdtId.{AdtId}
 use Rattle.hir_nameres.specs.HirIds.declared.ast_id.AstId.{AstId}
@@ -43,15 +44,17 @@ use Rattle.hir_collector_rules.specs.ItemIds.{macro_rules_id}
 use Rattle.hir_collector_rules.specs.Macros.{is_macro_use}
 use Rattle.hir_collector_rules.specs.Keys.{HasMeaning, IsMeant, entry_under, enum_key, environment, input_of, keys_behind, macro_tree, node_tree}
 use Rattle.hir_collector_rules.specs.Keys.{of_entry, of_input, of_text, of_tree, of_variants, source_under, text_at, text_of, tree_at}
-use Rattle.hir_collector_rules.specs.ModuleFiles.{IsFileMeant, own_file, tried_in}
-use Rattle.hir_collector_rules.specs.Calls.{Expanding, IsMeantAt, IsMeantCall, IsNumberedCall, call_site, call_tree, error_of, expansion_readings, item_kept}
-use Rattle.hir_collector_rules.specs.Calls.{text_readings, waiting_item}
+use Rattle.hir_collector_rules.specs.ModuleFiles.{IsFileMeant, Reading, own_file, tried_in}
+use Rattle.hir_collector_rules.specs.Calls.{EagerLook, Expanding, Grown, InnerMacro, IsGrownFrom, IsMeantAt, IsMeantCall, IsNumberedCall, IsNumberedEager}
+use Rattle.hir_collector_rules.specs.Calls.{call_site, call_style, call_tree, entry_readings, error_of, expansion_of_call, expansion_readings, grown_expansion}
+use Rattle.hir_collector_rules.specs.Calls.{grown_readings, inner_readings, item_kept, text_readings, waiting_item}
 use Rattle.hir_collector_rules.specs.State.{State, Task, Visit, visits, closes, import_state, visits_over}
 use Rattle.hir_collector_rules.specs.Start.{Beginning, began, begin_of, held_keys, holders_by, is_declared, krate_of, read_by, root_key, root_site, tree_key}
 use Rattle.hir_collector_rules.specs.Start.{tree_visits}
 use Rattle.hir_collector_rules.specs.Changes.{Change, lists, makes, gives_variants, begins_paths, reaches, awaits, ends, settles, changes_imports, adds_textual}
 use Rattle.hir_collector_rules.specs.Changes.{takes_textual, defines, describes, helps, lists_derive, notes, exports, uses_macros, tells, goes_on, act}
-use Rattle.hir_collector_rules.specs.Steps.{Rule, drops_item, awaits_attribute, lists_derives, faults_derive, exports_macro, reaches_call, rests, expands_call}
+use Rattle.hir_collector_rules.specs.Steps.{Rule, drops_item, awaits_attribute, lists_derives, faults_derive, exports_macro, reaches_call, rests}
+use Rattle.hir_collector_rules.specs.Steps.{expands_call, meets_macro}
 use Rattle.hir_collector_rules.specs.Steps.{drops_call, drops_reached, derives_builtin, skips_attribute, falls_back, defines_rules, defines_macro}
 use Rattle.hir_collector_rules.specs.Steps.{closes_module, closing, declares_item, declares_enum, lists_constant, lists_impl, opens_module, opens_file}
 use Rattle.hir_collector_rules.specs.Steps.{drops_file, misses_file, enters_block, reaches_imports, reaches_crate, resolves_imports, May, Numbered, acts}
@@ -286,6 +289,7 @@ module _ (tables : TablesValue) where
       let here : IsMeantAt tables site = next_meant s p _ rest may.next in
       (left s p _ rest may.next, ((record { site = here; node = here.tree; item = none_meant (call_at site head path) refl }, tt), tt))
   goes_on_meant finished s rests may numbered p = (tt, tt)
+  goes_on_meant finished s (meets_macro i d makro x) may numbered p = (tt, tt)
   goes_on_meant finished s (expands_call i d makro x) may numbered p =
       let call : IsMeantCall tables d = call_meant s.core.calls i d p.calls may.called.due.waiting.call in
       let there : IsMeantAt tables (call_site d x.id) = record { tree = expansion_meant tables s.core.map.id.krate d makro x numbered; file = call.site.file }
@@ -340,30 +344,74 @@ no_key : (key : Key) → Contains [] key → ⊥
 no_key key (n, below, is) = let past : n < 0 = below in omega arith
 
 module _ (tables : TablesValue) where
-  -- the numbers in the keys of a call mean something
+  -- the numbers in the key of a macro's text mean something, and those in the keys behind it
+  text_key_meant : (makro : MacroId) (text : Option (List ℕ)) (others : List Reading) → IsMeant tables makro
+      → ((key : Key) → Contains (keys_read others) key → HasMeaning tables key) → (key : Key) → Contains (keys_read (text_readings makro text ++ others)) key
+      → HasMeaning tables key
+  text_key_meant (macros.Macro2Id id) text others meant behind key (zero, below, is) = subst (HasMeaning tables) is meant
+  text_key_meant (macros.Macro2Id id) text others meant behind key (suc n, below, is) = behind key (n, omega arith, is)
+  text_key_meant (macros.MacroRulesId id) text others meant behind key (zero, below, is) = subst (HasMeaning tables) is meant
+  text_key_meant (macros.MacroRulesId id) text others meant behind key (suc n, below, is) = behind key (n, omega arith, is)
+  text_key_meant (macros.ProcMacroId id) text others meant behind key h = behind key h
+
+  -- those in the key of an expansion
+  entry_meant : (id : EntryId) (value : ExpansionValue) → entry_at tables id ≡ Some value → (key : Key) → keys.Expansion id ≡ key → HasMeaning tables key
+  entry_meant id value there key is = subst (HasMeaning tables) is (subst (λ (o : Option ExpansionValue). IsSome o) (sym there) refl)
+
+  -- in those of an expansion and of its items
+  entry_keys_meant : (own : Crate) (d : MacroDirective) (makro : MacroId) (x : Expanding) → IsNumberedCall tables own d makro x → (key : Key)
+      → Contains (keys_read (entry_readings own x)) key → HasMeaning tables key
+  entry_keys_meant own d makro x numbered key (zero, below, is) =
+      entry_meant x.entry (grown_expansion x.grown (expansion_of_call own (call_style d) makro x.text x.input)) numbered.entry key is
+  entry_keys_meant own d makro x numbered key (suc zero, below, is) = subst (HasMeaning tables) is (expansion_meant tables own d makro x numbered)
+  entry_keys_meant own d makro x numbered key (suc (suc n), below, is) = absurd (omega arith)
+
+  -- in those of the texts of macros
+  inner_keys_meant : (is : List InnerMacro) (others : List Reading) → All (λ (i : InnerMacro). IsMeant tables i.makro) is
+      → ((key : Key) → Contains (keys_read others) key → HasMeaning tables key) → (key : Key) → Contains (keys_read (inner_readings is ++ others)) key
+      → HasMeaning tables key
+  inner_keys_meant [] others all behind key h = behind key h
+  inner_keys_meant (i ∷ is) others all behind key h =
+      text_key_meant i.makro i.text (inner_readings is ++ others) (All-head (λ (j : InnerMacro). IsMeant tables j.makro) i is all)
+      (inner_keys_meant is others (All-tail (λ (j : InnerMacro). IsMeant tables j.makro) i is all) behind) key
+      (subst (λ (rs : List Reading). Contains (keys_read rs) key) (append_assoc (text_readings i.makro i.text) (inner_readings is) others) h)
+
+  -- and in those of what is resolved first
+  grown_keys_meant : (value : ExpansionValue) (g : Option Grown) (others : List Reading) → IsGrownFrom tables value g
+      → ((key : Key) → Contains (keys_read others) key → HasMeaning tables key) → (key : Key) → Contains (keys_read (grown_readings g ++ others)) key
+      → HasMeaning tables key
+  grown_keys_meant value None others first behind key h = behind key h
+  grown_keys_meant value (Some g) others first behind key (zero, below, is) = entry_meant g.entry value first.0 key is
+  grown_keys_meant value (Some g) others first behind key (suc n, below, is) = inner_keys_meant g.macros others first.1 behind key (n, omega arith, is)
+
   rest_meant : (own : Crate) (d : MacroDirective) (makro : MacroId) (x : Expanding) → IsMeantCall tables d → IsNumberedCall tables own d makro x
       → (key : Key) → Contains (keys_read (expansion_readings own d x)) key → HasMeaning tables key
   rest_meant own d makro x call numbered key (zero, below, is) = subst (HasMeaning tables) is call.node
-  rest_meant own d makro x call numbered key (suc zero, below, is) =
-      subst (HasMeaning tables) is (subst (λ (o : Option ExpansionValue). IsSome o) (sym numbered.entry) refl)
-  rest_meant own d makro x call numbered key (suc (suc zero), below, is) = subst (HasMeaning tables) is (expansion_meant tables own d makro x numbered)
-  rest_meant own d makro x call numbered key (suc (suc (suc n)), below, is) = absurd (omega arith)
+  rest_meant own d makro x call numbered key (suc n, below, is) =
+      grown_keys_meant (expansion_of_call own (call_style d) makro x.text x.input) x.grown (entry_readings own x) numbered.first
+      (entry_keys_meant own d makro x numbered) key (n, omega arith, is)
 
+  -- so do those in the keys of a call
   call_keys_meant : (own : Crate) (d : MacroDirective) (makro : MacroId) (x : Expanding) → IsMeantCall tables d → IsNumberedCall tables own d makro x
       → (key : Key) → Contains (keys_read (text_readings makro x.text ++ expansion_readings own d x)) key → HasMeaning tables key
-  call_keys_meant own d (macros.Macro2Id id) x call numbered key (zero, below, is) = subst (HasMeaning tables) is numbered.meant
-  call_keys_meant own d (macros.Macro2Id id) x call numbered key (suc n, below, is) =
-      rest_meant own d (macros.Macro2Id id) x call numbered key (n, omega arith, is)
-  call_keys_meant own d (macros.MacroRulesId id) x call numbered key (zero, below, is) = subst (HasMeaning tables) is numbered.meant
-  call_keys_meant own d (macros.MacroRulesId id) x call numbered key (suc n, below, is) =
-      rest_meant own d (macros.MacroRulesId id) x call numbered key (n, omega arith, is)
-  call_keys_meant own d (macros.ProcMacroId id) x call numbered key h = rest_meant own d (macros.ProcMacroId id) x call numbered key h
+  call_keys_meant own d makro x call numbered =
+      text_key_meant makro x.text (expansion_readings own d x) numbered.meant (rest_meant own d makro x call numbered)
+
+  eager_rest_meant : (own : Crate) (d : MacroDirective) (makro : MacroId) (x : EagerLook) → IsMeantCall tables d → IsNumberedEager tables own d makro x
+      → (key : Key) → Contains (keys.Input own d.ast_id ∷ keys.Expansion x.entry ∷ []) key → HasMeaning tables key
+  eager_rest_meant own d makro x call numbered key (zero, below, is) = subst (HasMeaning tables) is call.node
+  eager_rest_meant own d makro x call numbered key (suc zero, below, is) =
+      entry_meant x.entry (expansion_of_call own (call_style d) makro x.text x.input) numbered.entry key is
+  eager_rest_meant own d makro x call numbered key (suc (suc n), below, is) = absurd (omega arith)
 
   -- so do those in the keys of what a rule reads
   read_meant : (finished : Maps) (s : State) (r : Rule) → May finished s r → Numbered tables s r → IsAllMeant tables s → (key : Key)
       → Contains (keys_read (reads s r)) key → HasMeaning tables key
   read_meant finished s (expands_call i d makro x) may numbered p key h =
       call_keys_meant s.core.map.id.krate d makro x (call_meant tables s.core.calls i d p.calls may.called.due.waiting.call) numbered key h
+  read_meant finished s (meets_macro i d makro x) may numbered p key h =
+      text_key_meant makro x.text _ numbered.meant
+      (eager_rest_meant s.core.map.id.krate d makro x (call_meant tables s.core.calls i d p.calls may.called.due.waiting.call) numbered) key h
   read_meant finished s (declares_enum site head name found rest) may numbered p key h =
       subst (HasMeaning tables) (only _ key h) (next_meant tables s p _ rest may.next).tree
   read_meant finished s (opens_file site head name search file rest) may numbered p key h =
@@ -416,7 +464,7 @@ answers_stand tables grown w finished from answer kept there e =
     let asked : answer.asked ≡ e.last.core.asked ++ keys_behind e.last.core.map.id.krate transitive =
     e.asked_is
     ∙ ap (λ (krate : Crate). e.last.core.asked ++ keys_behind krate transitive) (sym (ap (λ (id : MapId). id.krate) (id-Steps e.derived))) in
-    let is : answer ≡ finished_run e.last.core answer.round_limit_met transitive =
+    let is : answer ≡ finished_run (read_by w finished from.start) e.last.core answer.round_limit_met transitive =
     λ i. record { map = e.map_is i; local = e.local_is i; leftover = e.leftover_is i; round_limit_met = answer.round_limit_met; asked = asked i } in
     ends_alike tables w finished from e.last answer.round_limit_met answer e.derived is
     (record {

@@ -2,6 +2,7 @@
 use Rattle.std.proofs.Common.{◌≡◌, ◌∙◌, ℕ, zero, suc, ◌<◌, false, List, [], ◌∷◌, ◌++◌, map, Option, Some, None, slice_get, refl, sym, ap, subst, arith}
 use Rattle.std.proofs.Common.{Contains}
 use Rattle.std.specs.Prelude.{IsSome, option_map}
+use Rattle.std.proofs.lemmas.List.Elements.{All-weaker}
 use Rattle.std.specs.Option.{option_map_or, option_to_list}
 use Rattle.hir_nameres.specs.HirIds.declared.ast_id.AstId.{AstId}
 use Rattle.hir_nameres.specs.HirIds.declared.ast_id.AttrId.{AttrId}
@@ -14,7 +15,7 @@ use Rattle.hir_nameres.specs.HirIds.declared.macro_kind.MacroId.TheVariants as m
 use Rattle.hir_nameres.specs.HirBase.declared.tree_id.TreeId.{TreeId}
 use Rattle.hir_mod_dir.specs.Directory.{Directory}
 use Rattle.hir_mod_dir.specs.declared.candidate.Candidate.{Candidate}
-use Rattle.hir_tables.specs.SourcePlaces.{SourcePlaceValue, file}
+use Rattle.hir_tables.specs.SourcePlaces.{ExpansionValue, SourcePlaceValue, file}
 use Rattle.hir_tables.specs.Tables.{KeepsTables, TablesValue, file_at, source_of}
 use Rattle.hir_tables.proofs.Growth.{source_of-kept}
 use Rattle.hir_nameres.specs.HirDefMapRules.Overlay.{Maps}
@@ -23,12 +24,13 @@ use Rattle.hir_collector_rules.specs.declared.source_database.Key.TheVariants as
 use Rattle.hir_collector_rules.specs.Workspace.{TreeLook, Workspace, seen_of}
 use Rattle.hir_collector_rules.specs.Keys.{HasMeaning, IsMeant, Look, absent_source, environment, look, macro_tree, of_tree, source_under}
 use Rattle.hir_collector_rules.specs.Attributes.{attr_id, item_node}
-use Rattle.hir_collector_rules.specs.Calls.{Expanding, IsMeantAt, IsNumberedCall, IsNumberedDerive, call_loc, call_style, derive_expansion, derive_loc}
-use Rattle.hir_collector_rules.specs.Calls.{expansion_of_call}
+use Rattle.hir_collector_rules.specs.Calls.{EagerLook, Expanding, Grown, InnerMacro, IsGrownFrom, IsMeantAt, IsNumberedCall, IsNumberedDerive, IsNumberedEager}
+use Rattle.hir_collector_rules.specs.Calls.{call_loc, call_style, derive_expansion, derive_loc, expansion_of_call, grown_expansion}
 use Rattle.hir_collector_rules.specs.ModuleFiles.{AreAbsent, AreNumbered, AreTried, IsNumberOf, IsNumbered, LookedAt, ModuleFile, NoneIsThereBefore, Search}
 use Rattle.hir_collector_rules.specs.ModuleFiles.{Tried, file_key, file_reading, file_readings, file_tree, is_there, module_file, named_by, taken_by, tried_in}
 use Rattle.hir_collector_rules.specs.Steps.{Numbered, Rule, Sees, drops_item, awaits_attribute, lists_derives, faults_derive, exports_macro, reaches_call}
-use Rattle.hir_collector_rules.specs.Steps.{rests, expands_call, drops_call, drops_reached, derives_builtin, skips_attribute, falls_back, defines_rules}
+use Rattle.hir_collector_rules.specs.Steps.{rests, expands_call, meets_macro, drops_call, drops_reached, derives_builtin, skips_attribute, falls_back}
+use Rattle.hir_collector_rules.specs.Steps.{defines_rules}
 use Rattle.hir_collector_rules.specs.Steps.{defines_macro, closes_module, declares_item, declares_enum, lists_constant, lists_impl, opens_module, opens_file}
 use Rattle.hir_collector_rules.specs.Steps.{drops_file, misses_file, enters_block, reaches_imports, reaches_crate, resolves_imports, keys_read}
 use Rattle.hir_collector_rules.specs.State.{State}
@@ -69,8 +71,23 @@ module _ (tables grown : TablesValue) (kept : KeepsTables tables grown) where
       x
   call_kept own d makro x h = record {
     meant = macro_kept makro h.meant;
-    entry = kept.entries x.entry.0 (expansion_of_call own (call_style d) makro x.text x.input) h.entry;
+    entry = kept.entries x.entry.0 (grown_expansion x.grown (expansion_of_call own (call_style d) makro x.text x.input)) h.entry;
     call = kept.calls x.id.0 (call_loc d x.entry) h.call;
+    first = grown_kept (expansion_of_call own (call_style d) makro x.text x.input) x.grown h.first;
+  }
+    where
+      grown_kept : (key : ExpansionValue) (g : Option Grown) → IsGrownFrom tables key g → IsGrownFrom grown key g
+      grown_kept key None h = tt
+      grown_kept key (Some g) h = (
+        kept.entries g.entry.0 key h.0,
+        All-weaker (λ (i : InnerMacro). IsMeant tables i.makro) (λ (i : InnerMacro). IsMeant grown i.makro) (λ i. macro_kept i.makro) g.macros h.1,
+      )
+
+  pub eager_kept : (own : Crate) (d : MacroDirective) (makro : MacroId) (x : EagerLook) → IsNumberedEager tables own d makro x → IsNumberedEager grown own d
+      makro x
+  eager_kept own d makro x h = record {
+    meant = macro_kept makro h.meant;
+    entry = kept.entries x.entry.0 (expansion_of_call own (call_style d) makro x.text x.input) h.entry;
   }
 
   pub derive_kept : (own : Crate) (item : AstId) (attr : AttrId) (id : MacroCallId) → IsNumberedDerive tables own item attr id → IsNumberedDerive grown own item
@@ -98,6 +115,7 @@ module _ (tables grown : TablesValue) (kept : KeepsTables tables grown) where
   Numbered-kept s (misses_file site head name search report rest) h = numbered_kept site.file search h
   Numbered-kept s (lists_derives v at a adt paths call rest) h = derive_kept s.core.map.id.krate (item_node v.site v.item) (attr_id a) call h
   Numbered-kept s (expands_call i d makro x) h = call_kept s.core.map.id.krate d makro x h
+  Numbered-kept s (meets_macro i d makro x) h = eager_kept s.core.map.id.krate d makro x h
   Numbered-kept s other h = tt
 
 -- ---- files that have numbers mean something

@@ -7,11 +7,13 @@ use Rattle.hir_collector_rules.specs.declared.macro_directive.Fate.TheVariants.{
 use Rattle.hir_collector_rules.specs.Calls.{IsWaiting, error_of}
 use Rattle.hir_collector_rules.specs.Keys.{Environment}
 use Rattle.hir_collector_rules.specs.State.{State, all_wait, import_state}
-use Rattle.hir_collector_rules.specs.Changes.{Change, lists, makes, gives_variants, begins_paths, reaches, awaits, ends, settles, changes_imports, adds_textual}
+use Rattle.hir_collector_rules.specs.Changes.{Change, lists, makes, gives_variants, begins_paths, reaches, awaits, ends, meets_eager, settles}
+use Rattle.hir_collector_rules.specs.Changes.{changes_imports, adds_textual}
 use Rattle.hir_collector_rules.specs.Changes.{takes_textual, defines, describes, helps, lists_derive, notes, exports, uses_macros, tells, goes_on, act, perform}
 use Rattle.hir_collector_rules.specs.Rounds as rounds
 use Rattle.hir_collector_rules.specs.Rounds.{HasManyRounds, Rounds, WasTried, handled, met}
-use Rattle.hir_collector_rules.specs.Steps.{Rule, drops_item, awaits_attribute, lists_derives, faults_derive, exports_macro, reaches_call, rests, expands_call}
+use Rattle.hir_collector_rules.specs.Steps.{Rule, drops_item, awaits_attribute, lists_derives, faults_derive, exports_macro, reaches_call, rests}
+use Rattle.hir_collector_rules.specs.Steps.{expands_call, meets_macro}
 use Rattle.hir_collector_rules.specs.Steps.{drops_call, drops_reached, derives_builtin, skips_attribute, falls_back, defines_rules, defines_macro}
 use Rattle.hir_collector_rules.specs.Steps.{closes_module, declares_item, declares_enum, lists_constant, lists_impl, opens_module, opens_file, drops_file}
 use Rattle.hir_collector_rules.specs.Steps.{misses_file, enters_block, reaches_imports, reaches_crate, resolves_imports, May, acts, after, asking, Step, Steps}
@@ -164,6 +166,7 @@ KeepsCalls-act s (begins_paths r) fine = KeepsCalls-same s (act s (begins_paths 
 KeepsCalls-act s (reaches rs) fine = KeepsCalls-same s (act s (reaches rs)) refl refl refl
 KeepsCalls-act s (awaits calls) fine = KeepsCalls-awaits s calls
 KeepsCalls-act s (ends i fate) fine = KeepsCalls-ends s i fate fine
+KeepsCalls-act s (meets_eager i seen) fine = KeepsCalls-same s (act s (meets_eager i seen)) refl refl refl
 KeepsCalls-act s settles fine = KeepsCalls-settles s
 KeepsCalls-act s (changes_imports c) fine = KeepsCalls-same s (act s (changes_imports c)) refl refl refl
 KeepsCalls-act s (adds_textual home name makro) fine = KeepsCalls-same s (act s (adds_textual home name makro)) refl refl refl
@@ -196,6 +199,7 @@ ends_calls finished s (exports_macro site head name d e rest) may = (tt, (tt, (t
 ends_calls finished s rests may = (tt, tt)
 ends_calls finished s (expands_call i d makro x) may =
     (ending_handled (asking s (expands_call i d makro x)) i, (tt, (tt, fine_expanding EndsCalls _ (λ t helper. tt) _ _ d (error_of x.there) (λ t text. tt) _)))
+ends_calls finished s (meets_macro i d makro x) may = (tt, tt)
 ends_calls finished s (drops_call i d) may = (ending_handled (asking s (drops_call i d)) i, tt)
 ends_calls finished s (drops_reached i d makro) may = (ending_handled (asking s (drops_reached i d makro)) i, fine_bringing EndsCalls _ (λ t helper. tt) _ _)
 ends_calls finished s (derives_builtin i d makro imp) may =

@@ -1,5 +1,5 @@
 -- What a part of a run does with macro calls.
-use Rattle.std.specs.Prelude.{◌≡◌, ◌<◌, ◌≤◌, ℕ, Bool, true, false, ◌++◌, length, Option, None, Some, slice_get}
+use Rattle.std.specs.Prelude.{◌≡◌, ◌<◌, ◌≤◌, ℕ, Bool, true, false, List, ◌++◌, IsSome, length, Option, None, Some, slice_get}
 use Rattle.hir_nameres.specs.HirIds.declared.macro_kind.MacroId.{MacroId}
 use Rattle.hir_item_tree.specs.SourceTree.{SourceTreeValue}
 use Rattle.hir_tables.specs.Tables.{TablesValue}
@@ -7,11 +7,15 @@ use Rattle.hir_nameres.specs.HirDefMapRules.Overlay.{Maps}
 use Rattle.hir_nameres.specs.HirDefMapRules.State.{IsInOrder}
 use Rattle.hir_import_rules.specs.Rest.{BroughtStands, IsAtRest, IsClosed, IsSound}
 use Rattle.hir_import_rules.specs.declared.directive.ImportDirective.{ImportDirective}
+use Rattle.hir_collector_rules.specs.declared.macro_directive.EagerMacro.{EagerMacro}
 use Rattle.hir_collector_rules.specs.declared.macro_directive.Fate.TheVariants.{Handled}
+use Rattle.hir_collector_rules.specs.declared.source_database.Key.{Key}
 use Rattle.hir_collector_rules.specs.declared.macro_directive.MacroDirective.{MacroDirective}
 use Rattle.hir_collector_rules.specs.declared.macro_directive.WaitingItem.{WaitingItem}
-use Rattle.hir_collector_rules.specs.Calls.{Expanding, IsMeantAt, IsMeantCall, IsNumberedCall, IsTextOf, IsWaiting, LeadsNowhere, call_site, called_macro}
-use Rattle.hir_collector_rules.specs.Calls.{expansion_readings, has_expansion, is_inert_now, text_readings, waiting_item}
+use Rattle.hir_collector_rules.specs.Calls.{EagerLook, Expanding, IsGrown, IsMeantAt, IsMeantCall, IsNumberedCall, IsNumberedEager, IsTextOf, IsWaiting}
+use Rattle.hir_collector_rules.specs.Calls.{LeadsNowhere, asked_first}
+use Rattle.hir_collector_rules.specs.Calls.{call_site, called_macro, eager_readings, expansion_readings, first_missing, has_expansion, is_inert_now}
+use Rattle.hir_collector_rules.specs.Calls.{text_readings, waiting_item}
 use Rattle.hir_collector_rules.specs.Keys.{Environment}
 use Rattle.hir_collector_rules.specs.Moves.{OnceGrown}
 use Rattle.hir_collector_rules.specs.Rounds.{HasManyRounds, IsRound}
@@ -26,6 +30,7 @@ pub record IsReady (tables : TablesValue) (finished : Maps) (c : Core) : Type 0 
   pub imports : (i : ℕ) (r : ImportDirective) → slice_get c.reached i ≡ Some r → r.home < length c.map.modules
   pub paired : length c.taken ≡ length c.reached
   pub fated : length c.fates ≡ length c.calls
+  pub listed : length c.eager ≡ length c.calls
   pub calls : (i : ℕ) (d : MacroDirective) → slice_get c.calls i ≡ Some d → d.site.home < length c.map.modules
   pub meant : (i : ℕ) (d : MacroDirective) → slice_get c.calls i ≡ Some d → IsMeantCall tables d
   pub in_order : IsInOrder c.map
@@ -34,11 +39,21 @@ pub record IsReady (tables : TablesValue) (finished : Maps) (c : Core) : Type 0 
 pub record SeesCall (tables : TablesValue) (w : Workspace) (finished : Maps) (d : MacroDirective) (makro : MacroId) (old new : Core) (x : Expanding)
     (source : SourceTreeValue) : Type 0 where
   pub text : IsTextOf finished old.map makro x.text
+  pub first : IsGrown finished old.local old.map d.site.home makro x.there x.grown
   pub numbered : OnceGrown tables w (λ env. IsNumberedCall env.tables old.map.id.krate d makro x)
   pub sees : OnceGrown tables w (λ env. (finished : Maps) → Sees env finished (text_readings makro x.text ++ expansion_readings old.map.id.krate d x))
   pub tree : x.tree ≡ seen_of source
   pub asked : new ≡ record old { asked = with_keys old.asked (keys_read (text_readings makro x.text ++ expansion_readings old.map.id.krate d x)) }
   pub written : IsMeantAt tables (call_site d x.id)
+
+-- what there is of one whose macro asks for a path first that reaches nothing
+pub record SeesEager (tables : TablesValue) (w : Workspace) (finished : Maps) (d : MacroDirective) (makro : MacroId) (old new : Core) (x : EagerLook) : Type
+    0 where
+  pub text : IsTextOf finished old.map makro x.text
+  pub numbered : OnceGrown tables w (λ env. IsNumberedEager env.tables old.map.id.krate d makro x)
+  pub sees : OnceGrown tables w (λ env. (finished : Maps) → Sees env finished (eager_readings old.map.id.krate d makro x))
+  pub missing : IsSome (first_missing finished old.local old.map d.site.home (asked_first makro x.there))
+  pub asked : new ≡ record old { asked = with_keys old.asked (keys_read (eager_readings old.map.id.krate d makro x)) }
 
 -- it reaches a macro that has an expansion, and isn't inert
 pub record FindsMacro (finished : Maps) (c : Core) (d : MacroDirective) (makro : MacroId) : Type 0 where
@@ -51,10 +66,17 @@ pub record FindsBuiltin (finished : Maps) (c : Core) (d : MacroDirective) (makro
   pub reaches : called_macro finished c.local c.map d ≡ Some makro
   pub builtin : has_expansion d makro ≡ false
 
--- what waited at the place was handled; or nothing was done, and it doesn't wait or reaches no macro
+-- nothing was done but that calls met eager macros, for which keys were asked
+pub record OnlyMeets (old new : Core) : Type 0 where
+  pub eager : List (List EagerMacro)
+  pub asked : List Key
+  pub count : ℕ
+  pub is : new ≡ record old { eager = eager; asked = asked; count = count }
+
+-- what waited at the place was handled; or it doesn't wait, reaches no macro, or waits for a path that the macro asks for
 pub data TriesCall (finished : Maps) (old new : Core) (i : ℕ) : Bool → Type 0 where
   handled : (d : MacroDirective) → IsWaiting (at_rest old) i d → slice_get new.fates i ≡ Some Handled → TriesCall finished old new i true
-  left : new ≡ old → LeadsNowhere finished (at_rest old) i → TriesCall finished old new i false
+  left : OnlyMeets old new → LeadsNowhere finished (at_rest new) i → TriesCall finished old new i false
 
 -- imports rest: the calls that there are can be expanded already, or may be from now on, which is a step
 pub data Rested (old new : Core) : Type 0 where
@@ -66,10 +88,10 @@ pub record RestsTooFar (old : Core) : Type 0 where
   pub more : ¬ (old.settled ≡ length old.calls)
   pub full : STEP_LIMIT ≤ old.count
 
--- a round was gone through; or nothing was done, and no call that waits reaches a macro
+-- a round was gone through; or nothing was expanded, and no call that waits reaches a macro with all that this asks for first
 pub data TriesCalls (env : Environment) (finished : Maps) (old new : Core) : Bool → Type 0 where
   round : IsRound env finished (at_rest old) (at_rest new) → TriesCalls env finished old new true
-  idle : new ≡ old → ((i : ℕ) → LeadsNowhere finished (at_rest old) i) → TriesCalls env finished old new false
+  idle : OnlyMeets old new → ((i : ℕ) → LeadsNowhere finished (at_rest new) i) → TriesCalls env finished old new false
 
 -- an attribute waits at the place
 pub record IsAttributeWaiting (c : Core) (i : ℕ) : Type 0 where

@@ -1,6 +1,8 @@
 -- Which macro does a call, a path of a derive or an attribute reach, and what does it expand to?
-use Rattle.std.specs.Prelude.{◌≡◌, ◌<◌, IsSome, ℕ, ◌+◌, Bool, true, false, List, [], ◌∷◌, codes, Option, None, Some, cond, map, not, option_map, unwrap_or}
+use Rattle.std.specs.Prelude.{◌≡◌, ◌<◌, IsSome, ℕ, ◌+◌, Bool, true, false, List, [], ◌∷◌, ◌++◌, Contains, codes, Option, None, Some, cond, map, not}
+use Rattle.std.specs.Prelude.{option_map, unwrap_or}
 use Rattle.std.specs.Prelude.{slice_get}
+use Rattle.std.specs.List.{All}
 use Rattle.std.specs.Option.{option_and_then}
 use Rattle.either.specs.declared.Either.{Either}
 use Rattle.hir_nameres.specs.HirIds.Ids.{macro_module}
@@ -17,6 +19,8 @@ use Rattle.hir_nameres.specs.HirBase.declared.macro_kind.MacroCallKind.{MacroCal
 use Rattle.hir_nameres.specs.HirBase.declared.macro_kind.MacroCallLoc.{MacroCallLoc}
 use Rattle.hir_nameres.specs.HirIds.declared.macro_kind.MacroExpander.{MacroExpander}
 use Rattle.hir_nameres.specs.HirIds.declared.macro_kind.MacroId.{MacroId}
+use Rattle.hir_nameres.specs.HirIds.contracts.macro_kind.MacroIdPartialEq.TheImpl as macro_equality
+use Rattle.hir_nameres.specs.HirBase.declared.macro_kind.MacroText.{MacroText}
 use Rattle.hir_nameres.specs.HirBase.declared.resolve_mode.MacroSubNs.{MacroSubNs}
 use Rattle.hir_nameres.specs.HirIds.declared.ast_id.HirFileId.TheVariants.{Macro}
 use Rattle.hir_nameres.specs.HirBase.declared.macro_kind.CallStyle.TheVariants as styles
@@ -41,6 +45,7 @@ use Rattle.hir_nameres.specs.HirDefMapRules.Scoping.Asking.{Asking}
 use Rattle.hir_nameres.specs.HirDefMapRules.State.{Local, MacroDataValue, Map, numbered}
 use Rattle.hir_nameres.specs.HirMapParts.declared.derive_helpers.DeriveHelper.{DeriveHelper}
 use Rattle.hir_item_tree.specs.KeptForest.{KeptItem, all_items}
+use Rattle.hir_collector_rules.specs.declared.macro_directive.EagerMacro.{EagerMacro}
 use Rattle.hir_collector_rules.specs.declared.macro_directive.Fate.TheVariants as fates
 use Rattle.hir_collector_rules.specs.declared.macro_directive.MacroDirective.{MacroDirective}
 use Rattle.hir_collector_rules.specs.declared.macro_directive.MacroDirectiveKind.{MacroDirectiveKind}
@@ -51,7 +56,7 @@ use Rattle.hir_collector_rules.specs.declared.source_database.Key.TheVariants as
 use Rattle.hir_collector_rules.specs.Attributes.{is_helper}
 use Rattle.hir_collector_rules.specs.Keys.{IsMeant, node_tree, of_entry, of_input, of_text, of_tree}
 use Rattle.hir_collector_rules.specs.ModuleFiles.{IsFileMeant, Reading}
-use Rattle.hir_collector_rules.specs.State.{State}
+use Rattle.hir_collector_rules.specs.State.{Core, State, eager_at}
 use Rattle.hir_collector_rules.specs.Workspace.{EntryLook, TreeLook}
 
 -- ---- which macro
@@ -176,6 +181,57 @@ builtin_impl makro (Attr path attr item) = None
 abbrev pub macro_crate : MacroId → Crate
 macro_crate makro = (macro_module makro).map.krate
 
+-- ---- what is resolved first
+
+-- whether a macro wants paths in the input of a call resolved before it expands the call
+abbrev pub is_eager_by : MacroExpander → Bool
+is_eager_by (expanders.Declarative styles) = false
+is_eager_by expanders.Builtin = false
+is_eager_by expanders.BuiltinEager = true
+is_eager_by expanders.BuiltinAttr = false
+is_eager_by expanders.BuiltinDerive = false
+is_eager_by expanders.Unimplemented = false
+
+abbrev pub is_eager : MacroId → Bool
+is_eager (Macro2Id id) = is_eager_by id.loc.expander
+is_eager (MacroRulesId id) = is_eager_by id.loc.expander
+is_eager (ProcMacroId id) = false
+
+-- the paths that it asks for, where this is its expansion
+abbrev pub asked_first : MacroId → EntryLook → List Path
+asked_first makro there = cond (is_eager makro) there.inner []
+
+-- the macro that one of them reaches in a module: that of a call
+abbrev pub inner_macro : Maps → Local → Map → ℕ → Path → Option MacroId
+inner_macro finished local m home path =
+    macro_among (resolution_of (overlay finished m) (by_style sub_namespaces.Bang local) (numbered m.id home) path).resolved_def
+
+-- the first of them that reaches nothing
+abbrev pub or_missing : Path → Option MacroId → Option Path → Option Path
+or_missing path None later = Some path
+or_missing path (Some makro) later = later
+
+abbrev pub first_missing : Maps → Local → Map → ℕ → List Path → Option Path
+first_missing finished local m home [] = None
+first_missing finished local m home (path ∷ paths) =
+    or_missing path (inner_macro finished local m home path) (first_missing finished local m home paths)
+
+-- what a macro asked for where a call reached it, if one did
+abbrev pub is_same_macro : MacroId → MacroId → Bool
+is_same_macro = macro_equality.ghosts.eq
+
+abbrev pub asked_before : List EagerMacro → MacroId → List Path
+asked_before [] makro = []
+asked_before (e ∷ es) makro = cond (is_same_macro e.makro makro) (e.inner ++ asked_before es makro) (asked_before es makro)
+
+-- the path for which a call that is left over is told: the first that the macro which it reaches asks for and that reaches nothing, or else its own
+abbrev pub told_by : Maps → Local → Map → MacroDirective → List EagerMacro → Option MacroId → Path
+told_by finished local m d eager None = path_of_call d
+told_by finished local m d eager (Some makro) = unwrap_or (first_missing finished local m d.site.home (asked_before eager makro)) (path_of_call d)
+
+abbrev pub told_path : Maps → Local → Map → MacroDirective → List EagerMacro → Path
+told_path finished local m d eager = told_by finished local m d eager (called_macro finished local m d)
+
 -- ---- its number
 
 -- what a call is
@@ -243,20 +299,62 @@ call_site d id = record {
 
 -- ---- what it expands to
 
--- what is seen of a call that reaches a macro: the macro's text, the input, and the expansion under its number
+-- a macro that a path reaches, and its text
+pub record InnerMacro : Type 0 where
+  pub makro : MacroId
+  pub text : Option (List ℕ)
+
+abbrev pub text_by : InnerMacro → MacroText
+text_by i = record { krate = macro_crate i.makro; text = unwrap_or i.text [] }
+
+-- what is seen of a call whose macro asks for paths first: the number of the expansion while none is resolved, what that has, and the macros that
+-- the paths reach, in their order
+pub record Grown : Type 0 where
+  pub entry : EntryId
+  pub there : EntryLook
+  pub macros : List InnerMacro
+
+-- what its expansion depends on then
+abbrev pub grown_by : List InnerMacro → ExpansionValue → ExpansionValue
+grown_by macros key = record key { reached = map text_by macros }
+
+abbrev pub grown_expansion : Option Grown → ExpansionValue → ExpansionValue
+grown_expansion None key = key
+grown_expansion (Some g) key = grown_by g.macros key
+
+-- what is seen of a call that reaches a macro: the macro's text, the input, what was resolved first, and the expansion under its number
 pub record Expanding : Type 0 where
   pub text : Option (List ℕ)
   pub input : Option (List ℕ)
+  pub grown : Option Grown
   pub entry : EntryId
   pub id : MacroCallId
   pub there : EntryLook
   pub tree : TreeLook
 
+-- what is seen of one where a path that its macro asks for reaches nothing
+pub record EagerLook : Type 0 where
+  pub text : Option (List ℕ)
+  pub input : Option (List ℕ)
+  pub entry : EntryId
+  pub there : EntryLook
+
+-- the numbers of what was resolved first mean what they are taken for
+abbrev pub IsGrownFrom : TablesValue → ExpansionValue → Option Grown → Type 0
+IsGrownFrom tables key None = Unit {0}
+IsGrownFrom tables key (Some g) = (entry_at tables g.entry ≡ Some key) × All (λ (i : InnerMacro). IsMeant tables i.makro) g.macros
+
 -- the numbers of the macro mean something, and those of the expansion and of the call what they are taken for
 pub record IsNumberedCall (tables : TablesValue) (own : Crate) (d : MacroDirective) (makro : MacroId) (x : Expanding) : Type 0 where
   pub meant : IsMeant tables makro
-  pub entry : entry_at tables x.entry ≡ Some (expansion_of_call own (call_style d) makro x.text x.input)
+  pub entry : entry_at tables x.entry ≡ Some (grown_expansion x.grown (expansion_of_call own (call_style d) makro x.text x.input))
   pub call : call_at tables x.id ≡ Some (call_loc d x.entry)
+  pub first : IsGrownFrom tables (expansion_of_call own (call_style d) makro x.text x.input) x.grown
+
+-- so do those of a call that waits for a path
+pub record IsNumberedEager (tables : TablesValue) (own : Crate) (d : MacroDirective) (makro : MacroId) (x : EagerLook) : Type 0 where
+  pub meant : IsMeant tables makro
+  pub entry : entry_at tables x.entry ≡ Some (expansion_of_call own (call_style d) makro x.text x.input)
 
 -- the text of a macro is read where a source writes it
 abbrev pub text_readings : MacroId → Option (List ℕ) → List Reading
@@ -275,12 +373,44 @@ called_text finished m (Macro2Id id) found = found
 called_text finished m (MacroRulesId id) found = found
 called_text finished m (ProcMacroId id) found = option_map (λ (what : MacroDataValue). what.name) (kept_of finished m (ProcMacroId id))
 
--- the input, whether the expansion is there, and its items
-abbrev pub expansion_readings : Crate → MacroDirective → Expanding → List Reading
-expansion_readings own d x =
-    record { key = keys.Input own d.ast_id; there = of_input x.input }
-    ∷ record { key = keys.Expansion x.entry; there = of_entry x.there }
+-- what its macro asks for first, and the texts of the macros that these paths reach
+abbrev pub inner_readings : List InnerMacro → List Reading
+inner_readings [] = []
+inner_readings (i ∷ is) = text_readings i.makro i.text ++ inner_readings is
+
+abbrev pub grown_readings : Option Grown → List Reading
+grown_readings None = []
+grown_readings (Some g) = record { key = keys.Expansion g.entry; there = of_entry g.there } ∷ inner_readings g.macros
+
+-- whether the expansion is there, and its items
+abbrev pub entry_readings : Crate → Expanding → List Reading
+entry_readings own x =
+    record { key = keys.Expansion x.entry; there = of_entry x.there }
     ∷ record { key = keys.Tree (call_key own x.id); there = of_tree x.tree } ∷ []
+
+-- the input, what is resolved first, and the expansion
+abbrev pub expansion_readings : Crate → MacroDirective → Expanding → List Reading
+expansion_readings own d x = record { key = keys.Input own d.ast_id; there = of_input x.input } ∷ (grown_readings x.grown ++ entry_readings own x)
+
+-- the input, and the expansion while a path reaches nothing
+abbrev pub eager_readings : Crate → MacroDirective → MacroId → EagerLook → List Reading
+eager_readings own d makro x =
+    text_readings makro x.text ++ record { key = keys.Input own d.ast_id; there = of_input x.input }
+    ∷ record { key = keys.Expansion x.entry; there = of_entry x.there } ∷ []
+
+-- the macros that paths reach in a module, and their texts
+abbrev pub AreReached : Maps → Local → Map → ℕ → List Path → List InnerMacro → Type 0
+AreReached finished local m home [] [] = Unit {0}
+AreReached finished local m home [] (i ∷ is) = ⊥
+AreReached finished local m home (path ∷ paths) [] = ⊥
+AreReached finished local m home (path ∷ paths) (i ∷ is) =
+    (inner_macro finished local m home path ≡ Some i.makro) × IsTextOf finished m i.makro i.text × AreReached finished local m home paths is
+
+-- what a macro asks for first reaches macros, where it asks for something
+abbrev pub IsGrown : Maps → Local → Map → ℕ → MacroId → EntryLook → Option Grown → Type 0
+IsGrown finished local m home makro there None = asked_first makro there ≡ []
+IsGrown finished local m home makro there (Some g) =
+    (¬ (asked_first makro g.there ≡ [])) × AreReached finished local m home (asked_first makro g.there) g.macros
 
 -- why a call didn't expand, or not well: its expansion is absent, or has an error beside it
 abbrev pub error_of : EntryLook → Option (List ℕ)
@@ -293,10 +423,17 @@ pub record IsWaiting (s : State) (i : ℕ) (d : MacroDirective) : Type 0 where
   pub call : slice_get s.core.calls i ≡ Some d
   pub waits : slice_get s.core.fates i ≡ Some fates.Waits
 
--- where it waits, it is no call that is deeper than calls may be, reaches no macro, and isn't inert
+-- it reaches no macro; or one that was seen to ask for a path first that reaches none
+pub data LacksMacro (finished : Maps) (c : Core) (i : ℕ) (d : MacroDirective) : Type 0 where
+  reaches_none : called_macro finished c.local c.map d ≡ None → LacksMacro finished c i d
+  lacks_inner : (makro : MacroId) (seen : EagerMacro) (path : Path) → called_macro finished c.local c.map d ≡ Some makro → Contains (eager_at c i) seen
+      → is_same_macro seen.makro makro ≡ true → Contains seen.inner path → inner_macro finished c.local c.map d.site.home path ≡ None
+      → LacksMacro finished c i d
+
+-- where it waits, it is no call that is deeper than calls may be, reaches no macro with all that this asks for first, and isn't inert
 pub record LeadsNowhere (finished : Maps) (s : State) (i : ℕ) : Type 0 where
   pub shallow : (d : MacroDirective) → IsWaiting s i d → is_call d ≡ true → d.site.level < s.core.map.crate_data.recursion_limit
-  pub nowhere : (d : MacroDirective) → IsWaiting s i d → called_macro finished s.core.local s.core.map d ≡ None
+  pub nowhere : (d : MacroDirective) → IsWaiting s i d → LacksMacro finished s.core i d
   pub active : (d : MacroDirective) → IsWaiting s i d → is_inert_now s.core.map d ≡ false
 
 -- ---- where calls are written

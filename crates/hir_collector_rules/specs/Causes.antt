@@ -24,8 +24,8 @@ use Rattle.hir_collector_rules.specs.Attributes.{next_attribute}
 use Rattle.hir_collector_rules.specs.ModuleFiles.{IsNumberOf, NoneIsThereBefore, file_key, named_by}
 use Rattle.hir_collector_rules.specs.State.{State, Task, visits}
 use Rattle.hir_collector_rules.specs.Start.{Beginning, begin_of, held_keys, holders_by, krate_of, read_by, root_key}
-use Rattle.hir_collector_rules.specs.Calls.{Expanding, IsNumberedCall}
-use Rattle.hir_collector_rules.specs.Steps.{Expands, Sees, Steps, behind, expands_call, keys_read, path_of, reads, visit}
+use Rattle.hir_collector_rules.specs.Calls.{EagerLook, Expanding, IsNumberedCall, IsNumberedEager}
+use Rattle.hir_collector_rules.specs.Steps.{Expands, MeetsEager, Sees, Steps, behind, expands_call, keys_read, meets_macro, path_of, reads, visit}
 
 -- the definitions that a module lists, if it is there
 abbrev pub declarations_of : Option ModuleValue → List ModuleDefId
@@ -60,8 +60,8 @@ pub record IsCandidate (tables : TablesValue) (w : Workspace) (at : State) (key 
   -- no candidate before it is there
   pub earlier : NoneIsThereBefore w at.core.map.id.krate declaring (candidates_of site.dir name (path_of head)) place
 
--- a call, a path of a derive or an attribute of a state reaches a macro, and this is the key of the macro's text, of the input, of the expansion or of the
--- expansion's items
+-- a call, a path of a derive or an attribute of a state reaches a macro, and this is the key of the macro's text, of the input, of what the macro asks for
+-- first, of the text of a macro that such a path reaches, of the expansion or of the expansion's items
 pub record IsOfCall (tables : TablesValue) (w : Workspace) (finished : Maps) (at : State) (key : Key) : Type 0 where
   pub place : ℕ
   pub call : MacroDirective
@@ -71,6 +71,17 @@ pub record IsOfCall (tables : TablesValue) (w : Workspace) (finished : Maps) (at
   pub numbered : IsNumberedCall tables at.core.map.id.krate call makro seen
   pub sees : Sees (environment tables w) finished (reads at (expands_call place call makro seen))
   pub among : Contains (keys_read (reads at (expands_call place call makro seen))) key
+
+-- it reaches a macro that asks for a path first which reaches nothing, and this is the key of the macro's text, of the input or of what it asks for
+pub record IsOfEager (tables : TablesValue) (w : Workspace) (finished : Maps) (at : State) (key : Key) : Type 0 where
+  pub place : ℕ
+  pub call : MacroDirective
+  pub makro : MacroId
+  pub seen : EagerLook
+  pub meets : MeetsEager finished at place call makro seen
+  pub numbered : IsNumberedEager tables at.core.map.id.krate call makro seen
+  pub sees : Sees (environment tables w) finished (reads at (meets_macro place call makro seen))
+  pub among : Contains (keys_read (reads at (meets_macro place call makro seen))) key
 
 -- the reasons for which a run that ends in this state may have asked for a key
 pub data HasCause (tables : TablesValue) (w : Workspace) (finished : Maps) (from : Beginning) (last : State) (key : Key) : Type 0 where
@@ -86,6 +97,9 @@ pub data HasCause (tables : TablesValue) (w : Workspace) (finished : Maps) (from
   -- it is one of the keys of a call that reaches a macro
   of_call : (at : State) → IsPassed tables w finished from last at → IsOfCall tables w (read_by w finished from.start) at key → HasCause tables w finished from
       last key
+  -- or one of those of a call that waits for a path that the macro asks for
+  of_eager : (at : State) → IsPassed tables w finished from last at → IsOfEager tables w (read_by w finished from.start) at key → HasCause tables w finished
+      from last key
   -- it is the map of a crate on which the run's crate depends
   dependency : (krate : Crate) → Contains (transitive_dependencies_in w (krate_of from.start)) krate → key ≡ map_key krate → HasCause tables w finished from
       last key

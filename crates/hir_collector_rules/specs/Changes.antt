@@ -18,9 +18,11 @@ use Rattle.hir_nameres.specs.HirMapParts.declared.origin.ModuleOrigin.{ModuleOri
 use Rattle.hir_import_rules.specs.declared.directive.ImportDirective.{ImportDirective}
 use Rattle.hir_import_rules.specs.Changes.{Change as ImportChange, act as act_on_imports}
 use Rattle.hir_collector_rules.specs.declared.exported.ExportedFunction.{ExportedFunction}
+use Rattle.hir_collector_rules.specs.declared.macro_directive.EagerMacro.{EagerMacro}
 use Rattle.hir_collector_rules.specs.declared.macro_directive.Fate.{Fate}
 use Rattle.hir_collector_rules.specs.declared.macro_directive.MacroDirective.{MacroDirective}
-use Rattle.hir_collector_rules.specs.State.{State, Task, import_state, with_calls, with_exported_function, with_fate, with_import_state, with_imports}
+use Rattle.hir_collector_rules.specs.State.{State, Task, import_state, with_calls, with_eager, with_exported_function, with_fate, with_import_state}
+use Rattle.hir_collector_rules.specs.State.{with_imports}
 use Rattle.hir_collector_rules.specs.State.{with_local, with_map, with_settled}
 use Rattle.hir_collector_rules.specs.Invocations.{Invocation, with_noted}
 use Rattle.hir_collector_rules.specs.ItemIds.{module_id}
@@ -43,6 +45,8 @@ pub data Change : Type 0 where
   awaits : List MacroDirective → Change
   -- this is what becomes of the call at a place
   ends : (i : ℕ) → Fate → Change
+  -- the call at a place reached an eager macro, and a path that this asks for first reached nothing
+  meets_eager : (i : ℕ) → EagerMacro → Change
   -- the calls that there are may be expanded
   settles : Change
   -- a declaration, an import or a glob binds names, or it's noted what an import was taken for
@@ -91,6 +95,7 @@ act s (begins_paths r) = record s { core = with_local s.core (extern_after s.cor
 act s (reaches rs) = record s { core = with_imports s.core rs }
 act s (awaits calls) = record s { core = with_calls s.core calls }
 act s (ends i fate) = record s { core = with_fate s.core i fate }
+act s (meets_eager i seen) = record s { core = with_eager s.core i seen }
 act s settles = record s { core = with_settled s.core }
 act s (changes_imports c) = with_import_state s (act_on_imports (import_state s) c)
 act s (adds_textual home name makro) = on_map s (with_textual_macro s.core.map home name makro)

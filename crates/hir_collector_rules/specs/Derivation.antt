@@ -63,8 +63,8 @@ is_left_over None = false
 is_left_over (Some t) = is_untaken t
 
 -- what is reported of calls that wait, and of imports that were never taken
-abbrev pub leftover_reports : Core → List DefDiagnostic
-leftover_reports c = unresolved_calls c.map.id c.calls c.fates ++ leftover_diagnostics c.map c.reached c.taken
+abbrev pub leftover_reports : Maps → Core → List DefDiagnostic
+leftover_reports finished c = unresolved_calls finished c.local c.map c.calls c.fates c.eager ++ leftover_diagnostics c.map c.reached c.taken
 
 -- what a run answers
 pub record CollectedValue : Type 0 where
@@ -83,15 +83,19 @@ pub record CollectedValue : Type 0 where
 abbrev pub collected_view : Collected → CollectedValue
 collected_view c = record { map = c.map; local = c.local; leftover = c.leftover.items; round_limit_met = c.round_limit_met; asked = c.asked }
 
--- what a run answers that comes to this, whether or not rounds of calls were cut off, of a crate with these transitive dependencies
-abbrev pub finished_run : Core → Bool → List Crate → CollectedValue
-finished_run c round_limit_met transitive = record {
-  map = with_diagnostics (ended c) (leftover_reports c);
+-- what a run answers that comes to this, where this is told of its calls, whether or not rounds of calls were cut off, of a crate with these transitive dependencies
+abbrev pub told_run : Core → List DefDiagnostic → Bool → List Crate → CollectedValue
+told_run c calls_told round_limit_met transitive = record {
+  map = with_diagnostics (ended c) (calls_told ++ leftover_diagnostics c.map c.reached c.taken);
   local = c.local;
   leftover = leftover_among c.reached c.taken;
   round_limit_met = round_limit_met;
   asked = c.asked ++ keys_behind c.map.id.krate transitive;
 }
+
+abbrev pub finished_run : Maps → Core → Bool → List Crate → CollectedValue
+finished_run finished c round_limit_met transitive =
+    told_run c (unresolved_calls finished c.local c.map c.calls c.fates c.eager) round_limit_met transitive
 
 -- a derivation from the start over this workspace, beside these finished maps, ends in the answer
 pub record Ends (tables : TablesValue) (w : Workspace) (finished : Maps) (from : Beginning) (answer : CollectedValue) : Type 0 where
@@ -106,7 +110,7 @@ pub record Ends (tables : TablesValue) (w : Workspace) (finished : Maps) (from :
   pub settled : answer.round_limit_met ≡ false → (i : ℕ) → IsSettled (read_by w finished from.start) (import_state last) i
   pub binds : answer.round_limit_met ≡ false → (i : ℕ) → BindsWhatItReaches (read_by w finished from.start) last i
   pub linked : answer.round_limit_met ≡ false → (i : ℕ) → IsLinked (read_by w finished from.start) last i
-  -- no call that waits is too deep; no call and no path of a derive that waits reaches a macro, and no attribute waits
+  -- no call that waits is too deep; no call and no path of a derive that waits reaches a macro with all that this asks for first, and no attribute waits
   pub nowhere : answer.round_limit_met ≡ false → (i : ℕ) → LeadsNowhere (read_by w finished from.start) last i
   pub unwaiting : answer.round_limit_met ≡ false → (i : ℕ) (d : MacroDirective) → IsWaiting last i d → waiting_item d ≡ None
   -- they are cut off only where there were more than may be
@@ -115,7 +119,7 @@ pub record Ends (tables : TablesValue) (w : Workspace) (finished : Maps) (from :
   pub own : answer.map.id ≡ id_of from.start
   -- where the crate is a procedural macro's, others see of its root only the macros that it exports; a diagnostic comes behind the others for each call and
   -- each import that is left over
-  pub map_is : answer.map ≡ with_diagnostics (ended last.core) (leftover_reports last.core)
+  pub map_is : answer.map ≡ with_diagnostics (ended last.core) (leftover_reports (read_by w finished from.start) last.core)
   pub local_is : answer.local ≡ last.core.local
   pub leftover_is : answer.leftover ≡ leftover_among last.core.reached last.core.taken
   -- what the steps asked for, the map of each crate on which the run's crate depends, and what these and the run's crate were handed in with

@@ -1,4 +1,5 @@
 -- ---- what is handed in, and what a run may ask for
+pub mod InnerPaths
 pub mod Workspace
 pub mod Keys
 pub mod Asked

@@ -1,5 +1,6 @@
 -- Of what does the next step of a run speak that has no number, where none is left?
-use Rattle.std.specs.Prelude.{◌≡◌, ◌<◌, ℕ, List, Option, Some, slice_get}
+use Rattle.std.specs.Prelude.{◌≡◌, ◌<◌, ℕ, List, [], Option, Some, slice_get}
+use Rattle.std.specs.List.{All}
 use Rattle.hir_nameres.specs.HirBase.Locations.{max_locations}
 use Rattle.hir_nameres.specs.HirBase.ModPath.{Path}
 use Rattle.hir_nameres.specs.HirIds.declared.ids.AdtId.{AdtId}
@@ -16,13 +17,14 @@ use Rattle.hir_mod_dir.specs.ModuleFiles.{candidates_of}
 use Rattle.hir_tables.specs.SourcePlaces.{ExpansionValue}
 use Rattle.hir_tables.specs.Tables.{TablesValue, entry_at}
 use Rattle.hir_nameres.specs.HirDefMapRules.Overlay.{Maps}
-use Rattle.hir_nameres.specs.HirDefMapRules.State.{Map}
+use Rattle.hir_nameres.specs.HirDefMapRules.State.{Local, Map}
 use Rattle.hir_collector_rules.specs.declared.macro_directive.MacroDirective.{MacroDirective}
 use Rattle.hir_collector_rules.specs.declared.site.Site.{Site}
 use Rattle.hir_collector_rules.specs.Keys.{Environment, IsMeant, input_at, text_at}
 use Rattle.hir_collector_rules.specs.State.{State, Task, Visit}
 use Rattle.hir_collector_rules.specs.Attributes.{attr_id, item_node}
-use Rattle.hir_collector_rules.specs.Calls.{call_kind, call_style, called_text, derive_expansion, expansion_of_call}
+use Rattle.hir_collector_rules.specs.Calls.{AreReached, InnerMacro, asked_first, call_kind, call_style, called_text, derive_expansion, expansion_of_call}
+use Rattle.hir_collector_rules.specs.Calls.{grown_by}
 use Rattle.hir_collector_rules.specs.ModuleFiles.{IsNumberOf, IsTriedFile}
 use Rattle.hir_collector_rules.specs.Steps.{CallsMacro, IsNext, ListsDerives, path_of, visit}
 
@@ -56,10 +58,17 @@ pub data IsCallNumberedOut (tables : TablesValue) (kind : MacroCallKind) (key : 
   call_out : (entry : EntryId) → entry_at tables entry ≡ Some key → IsNumberedOut tables.calls (record { kind = kind; entry = entry })
       → IsCallNumberedOut tables kind key
 
-pub record LacksExpansion (env : Environment) (finished : Maps) (m : Map) (d : MacroDirective) (makro : MacroId) : Type 0 where
-  -- the source that writes the macro has a number
-  pub meant : IsMeant env.tables makro
-  pub out : IsCallNumberedOut env.tables (call_kind d) (expansion_by env finished m d makro)
+-- so it is of a call whose macro has a source with a number, and asks for nothing first; or what tells what it asks for has no number; or so it is once what the
+-- macro asks for first reaches macros whose sources have numbers
+pub data LacksExpansion (env : Environment) (finished : Maps) (local : Local) (m : Map) (d : MacroDirective) (makro : MacroId) : Type 0 where
+  at_once : IsMeant env.tables makro → asked_first makro (env.workspace.entry (expansion_by env finished m d makro)) ≡ []
+      → IsCallNumberedOut env.tables (call_kind d) (expansion_by env finished m d makro)
+      → LacksExpansion env finished local m d makro
+  no_entry : IsMeant env.tables makro → IsNumberedOut env.tables.entries (expansion_by env finished m d makro) → LacksExpansion env finished local m d makro
+  grown : IsMeant env.tables makro → (macros : List InnerMacro)
+      → AreReached finished local m d.site.home (asked_first makro (env.workspace.entry (expansion_by env finished m d makro))) macros
+      → All (λ (i : InnerMacro). IsMeant env.tables i.makro) macros
+      → IsCallNumberedOut env.tables (call_kind d) (grown_by macros (expansion_by env finished m d makro)) → LacksExpansion env finished local m d makro
 
 -- a call, a path of a derive or an attribute reaches a macro that has an expansion, and isn't too deep
 pub record LacksCall (env : Environment) (finished : Maps) (s : State) : Type 0 where
@@ -68,7 +77,7 @@ pub record LacksCall (env : Environment) (finished : Maps) (s : State) : Type 0 
   pub makro : MacroId
   pub called : CallsMacro finished s place call makro
   pub shallow : call.site.level < s.core.map.crate_data.recursion_limit
-  pub expansion : LacksExpansion env finished s.core.map call makro
+  pub expansion : LacksExpansion env finished s.core.local s.core.map call makro
 
 -- so it is of the call of a `derive` attribute
 abbrev pub IsDeriveNumberedOut : TablesValue → Crate → AstId → AttrId → Type 0

@@ -1,5 +1,5 @@
 -- Which diagnostics does a run make?
-use Rattle.std.specs.Prelude.{◌≡◌, ℕ, Bool, true, false, List, [], ◌∷◌, ◌++◌, cond}
+use Rattle.std.specs.Prelude.{◌≡◌, ℕ, Bool, true, false, List, [], ◌∷◌, ◌++◌, cond, drop}
 use Rattle.std.specs.List.{list_any}
 use Rattle.std.specs.BTreeMap.{is_at}
 use Rattle.std.specs.Cmp.Lexicographic.{slice_cmp}
@@ -19,18 +19,21 @@ use Rattle.hir_nameres.specs.HirBase.declared.mod_path.PathKind.{PathKind}
 use Rattle.hir_nameres.specs.HirIds.declared.ast_id.AstKind.TheVariants as nodes
 use Rattle.hir_nameres.specs.HirIds.declared.macro_kind.MacroExpander.TheVariants as expanders
 use Rattle.hir_nameres.specs.HirBase.declared.mod_path.PathKind.TheVariants as roots
-use Rattle.hir_nameres.specs.HirDefMapRules.State.{Map, numbered}
+use Rattle.hir_nameres.specs.HirDefMapRules.Overlay.{Maps}
+use Rattle.hir_nameres.specs.HirDefMapRules.State.{Local, Map, numbered}
 use Rattle.hir_nameres.specs.HirMapParts.declared.diagnostics.DefDiagnostic.{DefDiagnostic}
 use Rattle.hir_nameres.specs.HirMapParts.declared.diagnostics.DefDiagnosticKind.TheVariants as kinds
 use Rattle.hir_import_rules.specs.declared.directive.ImportDirective.{ImportDirective}
 use Rattle.hir_import_rules.specs.declared.directive.ImportSource.{ImportSource}
 use Rattle.hir_import_rules.specs.declared.directive.ImportSource.TheVariants as sources
 use Rattle.hir_import_rules.specs.Directives.{TakenValue, is_untaken}
+use Rattle.hir_collector_rules.specs.declared.macro_directive.EagerMacro.{EagerMacro}
 use Rattle.hir_collector_rules.specs.declared.macro_directive.Fate.{Fate}
 use Rattle.hir_collector_rules.specs.declared.macro_directive.Fate.TheVariants as fates
 use Rattle.hir_collector_rules.specs.declared.macro_directive.MacroDirective.{MacroDirective}
-use Rattle.hir_collector_rules.specs.Calls.{call_kind, path_of_call}
+use Rattle.hir_collector_rules.specs.Calls.{call_kind, told_path}
 use Rattle.hir_collector_rules.specs.CrateTop.{with_names}
+use Rattle.hir_collector_rules.specs.State.{eager_among}
 
 -- ---- items
 
@@ -72,18 +75,22 @@ failed_call at node path error = record { in_module = at; kind = kinds.MacroErro
 
 -- ---- calls that are left over
 
--- a call, a path of a derive or an attribute reaches no macro
-abbrev pub call_report : MapId → MacroDirective → DefDiagnostic
-call_report id d = record { in_module = numbered id d.site.home; kind = kinds.UnresolvedMacroCall (call_kind d) (path_of_call d) }
+-- a call, a path of a derive or an attribute reaches no macro, or one that asks for a path first that reaches none
+abbrev pub call_report : Maps → Local → Map → MacroDirective → List EagerMacro → DefDiagnostic
+call_report finished local m d eager = record {
+  in_module = numbered m.id d.site.home;
+  kind = kinds.UnresolvedMacroCall (call_kind d) (told_path finished local m d eager);
+}
 
 -- one for each call that waits, in the order in which they were come upon
-abbrev pub unresolved_calls : MapId → List MacroDirective → List Fate → List DefDiagnostic
-unresolved_calls id [] fs = []
-unresolved_calls id (d ∷ ds) [] = []
-unresolved_calls id (d ∷ ds) (fates.Waits ∷ fs) = call_report id d ∷ unresolved_calls id ds fs
-unresolved_calls id (d ∷ ds) (fates.Handled ∷ fs) = unresolved_calls id ds fs
+abbrev pub unresolved_calls : Maps → Local → Map → List MacroDirective → List Fate → List (List EagerMacro) → List DefDiagnostic
+unresolved_calls finished local m [] fs es = []
+unresolved_calls finished local m (d ∷ ds) [] es = []
+unresolved_calls finished local m (d ∷ ds) (fates.Waits ∷ fs) es =
+    call_report finished local m d (eager_among es 0) ∷ unresolved_calls finished local m ds fs (drop 1 es)
+unresolved_calls finished local m (d ∷ ds) (fates.Handled ∷ fs) es = unresolved_calls finished local m ds fs (drop 1 es)
 -- an attribute that was given up was reported then
-unresolved_calls id (d ∷ ds) (fates.GivenUp ∷ fs) = unresolved_calls id ds fs
+unresolved_calls finished local m (d ∷ ds) (fates.GivenUp ∷ fs) es = unresolved_calls finished local m ds fs (drop 1 es)
 
 -- ---- imports that are left over
 

@@ -155,6 +155,7 @@ core_by finished crate_data local dependencies options is_proc_macro holders sta
   taken = [];
   calls = [];
   fates = [];
+  eager = [];
   settled = 0;
   is_proc_macro = is_proc_macro;
   exported = [];

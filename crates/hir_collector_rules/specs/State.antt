@@ -1,5 +1,5 @@
 -- Where a run stands.
-use Rattle.std.specs.Prelude.{ℕ, ◌+◌, Bool, List, [], ◌∷◌, ◌++◌, None, length, map, slice_set}
+use Rattle.std.specs.Prelude.{ℕ, ◌+◌, Bool, List, [], ◌∷◌, ◌++◌, None, length, map, slice_get, slice_set, unwrap_or}
 use Rattle.hir_nameres.specs.HirBase.declared.cfg.CfgAtom.{CfgAtom}
 use Rattle.hir_item_tree.specs.KeptForest.{KeptItem, KeptForest, no_items, item}
 use Rattle.hir_nameres.specs.HirScope.Globs.{GlobNames}
@@ -14,6 +14,7 @@ use Rattle.hir_import_rules.specs.declared.directive.ImportDirective.{ImportDire
 use Rattle.hir_import_rules.specs.Directives.{TakenValue, not_taken}
 use Rattle.hir_import_rules.specs.State.{ImportState, nothing_brought}
 use Rattle.hir_collector_rules.specs.declared.exported.ExportedFunction.{ExportedFunction}
+use Rattle.hir_collector_rules.specs.declared.macro_directive.EagerMacro.{EagerMacro}
 use Rattle.hir_collector_rules.specs.declared.macro_directive.Fate.{Fate}
 use Rattle.hir_collector_rules.specs.declared.macro_directive.Fate.TheVariants.{Waits}
 use Rattle.hir_collector_rules.specs.declared.macro_directive.MacroDirective.{MacroDirective}
@@ -75,6 +76,8 @@ pub record Core : Type 0 where
   pub calls : List MacroDirective
   -- for each of them what became of it
   pub fates : List Fate
+  -- for each of them the eager macros that it reached while a path that they ask for first reached nothing, in order
+  pub eager : List (List EagerMacro)
   -- how many calls there were when imports rested last: these may be expanded
   pub settled : ℕ
   -- whether the crate is a procedural macro's, and the functions of its root that export macros, in order
@@ -98,6 +101,7 @@ pub record Run : Type 0 where
   pub taken : List TakenValue
   pub calls : List MacroDirective
   pub fates : List Fate
+  pub eager : List (List EagerMacro)
   pub settled : ℕ
   pub is_proc_macro : Bool
   pub exported : List ExportedFunction
@@ -118,6 +122,7 @@ core_in r = record {
   taken = r.taken;
   calls = r.calls;
   fates = r.fates;
+  eager = r.eager;
   settled = r.settled;
   is_proc_macro = r.is_proc_macro;
   exported = r.exported;
@@ -149,8 +154,23 @@ with_imports c rs = record c { reached = c.reached ++ rs; taken = c.taken ++ not
 abbrev pub all_wait : List MacroDirective → List Fate
 all_wait calls = map (λ (d : MacroDirective). Waits) calls
 
+-- none of which has reached an eager macro
+abbrev pub none_eager : List MacroDirective → List (List EagerMacro)
+none_eager calls = map (λ (d : MacroDirective). []) calls
+
 abbrev pub with_calls : Core → List MacroDirective → Core
-with_calls c calls = record c { calls = c.calls ++ calls; fates = c.fates ++ all_wait calls }
+with_calls c calls = record c { calls = c.calls ++ calls; fates = c.fates ++ all_wait calls; eager = c.eager ++ none_eager calls }
+
+-- the eager macros that the call at a place reached
+abbrev pub eager_among : List (List EagerMacro) → ℕ → List EagerMacro
+eager_among eager i = unwrap_or (slice_get eager i) []
+
+abbrev pub eager_at : Core → ℕ → List EagerMacro
+eager_at c i = eager_among c.eager i
+
+-- the core where the call at a place reached one more
+abbrev pub with_eager : Core → ℕ → EagerMacro → Core
+with_eager c i seen = record c { eager = slice_set c.eager i (eager_at c i ++ seen ∷ []) }
 
 -- the core where this became of the call at a place
 abbrev pub with_fate : Core → ℕ → Fate → Core

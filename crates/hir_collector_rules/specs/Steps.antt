@@ -1,5 +1,6 @@
 -- The steps that the import rules allow: each is a rule, which reads of the workspace and makes changes.
-use Rattle.std.specs.Prelude.{◌≡◌, ◌<◌, ◌≤◌, ℕ, suc, ◌+◌, Bool, ◌||◌, true, false, List, [], ◌∷◌, ◌++◌, length, map as list_map, Option, Some, None, cond}
+use Rattle.std.specs.Prelude.{◌≡◌, ◌<◌, ◌≤◌, Contains, ℕ, suc, ◌+◌, Bool, ◌||◌, true, false, List, [], ◌∷◌, ◌++◌, length, map as list_map, Option, Some, None}
+use Rattle.std.specs.Prelude.{cond}
 use Rattle.either.specs.declared.Either.TheVariants as either
 use Rattle.hir_nameres.specs.HirBase.Cfg.{Cfg}
 use Rattle.hir_nameres.specs.HirBase.ModPath.{Path}
@@ -57,13 +58,15 @@ use Rattle.hir_collector_rules.specs.Keys.{Environment, of_variants, look}
 use Rattle.hir_collector_rules.specs.ModuleFiles.{IsNumbered, IsSearch, ModuleFile, Reading, Search, file_readings, file_tree, module_file, path_attribute}
 use Rattle.hir_collector_rules.specs.ModuleFiles.{tried_in}
 use Rattle.hir_collector_rules.specs.Attributes.{adt_of, attr_id, export_at, is_derive, item_node, next_attribute, paths_in, proc_macro_id}
-use Rattle.hir_collector_rules.specs.Calls.{Expanding, IsNumberedCall, IsNumberedDerive, IsTextOf, IsWaiting, LeadsNowhere, builtin_impl, call_site}
-use Rattle.hir_collector_rules.specs.Calls.{called_macro, error_of, expansion_readings, has_expansion, helpers_brought, is_call, is_inert_now, item_kept}
+use Rattle.hir_collector_rules.specs.Calls.{EagerLook, Expanding, IsGrown, IsNumberedCall, IsNumberedDerive, IsNumberedEager, IsTextOf, IsWaiting}
+use Rattle.hir_collector_rules.specs.Calls.{LeadsNowhere, asked_first, builtin_impl}
+use Rattle.hir_collector_rules.specs.Calls.{call_site, called_macro, eager_readings, error_of, expansion_readings, has_expansion, helpers_brought}
+use Rattle.hir_collector_rules.specs.Calls.{inner_macro, is_call, is_inert_now, item_kept}
 use Rattle.hir_collector_rules.specs.Calls.{path_of_call, text_readings, waiting_item}
 use Rattle.hir_collector_rules.specs.Reports.{IsUnconfigured, IsUnresolvedModule, call_report, failed_call, invalid_target, is_unimplemented, malformed_derive}
 use Rattle.hir_collector_rules.specs.Reports.{unimplemented_macro}
 pub use Rattle.hir_collector_rules.specs.State.{behind, visit}
-use Rattle.hir_collector_rules.specs.State.{Core, Visit, Task, visits, closes, State, import_state, visits_over, ticked, with_bound, with_map}
+use Rattle.hir_collector_rules.specs.State.{Core, Visit, Task, visits, closes, State, eager_at, import_state, visits_over, ticked, with_bound, with_map}
 use Rattle.hir_collector_rules.specs.Invocations.{derive_met, impl_noted, invocation_of}
 use Rattle.hir_collector_rules.specs.ItemIds.{const_id, enum_id, impl_id, extern_block_id, extern_crate_id, function_id, macro_def_id, macro_rules_id}
 use Rattle.hir_collector_rules.specs.ItemIds.{module_id, node_of, use_id}
@@ -71,7 +74,8 @@ use Rattle.hir_collector_rules.specs.Items.{declaration_of, declared_module, fil
 use Rattle.hir_collector_rules.specs.Enums.{variants_of}
 use Rattle.hir_collector_rules.specs.Imports.{crate_import, imports_by}
 use Rattle.hir_collector_rules.specs.Macros.{is_exported, is_macro_use, macro_declaration, macros_brought}
-use Rattle.hir_collector_rules.specs.Changes.{Change, lists, makes, gives_variants, begins_paths, reaches, awaits, ends, settles, changes_imports, adds_textual}
+use Rattle.hir_collector_rules.specs.Changes.{Change, lists, makes, gives_variants, begins_paths, reaches, awaits, ends, meets_eager, settles}
+use Rattle.hir_collector_rules.specs.Changes.{changes_imports, adds_textual}
 use Rattle.hir_collector_rules.specs.Changes.{takes_textual, defines, describes, helps, lists_derive, notes, exports, uses_macros, tells, goes_on, perform}
 
 -- ---- what the rules are about
@@ -193,6 +197,8 @@ pub data Rule : Type 0 where
   rests : Rule
   -- the call, path of a derive or attribute at the place reaches a macro: the items to which it expands are visited next
   expands_call : (i : ℕ) (d : MacroDirective) (makro : MacroId) (x : Expanding) → Rule
+  -- the call, path of a derive or attribute at the place reaches an eager macro that asks for a path first which reaches nothing: it goes on waiting
+  meets_macro : (i : ℕ) (d : MacroDirective) (makro : MacroId) (x : EagerLook) → Rule
   -- the call at the place is deeper than calls may be, and is dropped
   drops_call : (i : ℕ) (d : MacroDirective) → Rule
   -- the path of a derive or the attribute at the place reaches a macro, is deeper than calls may be, and is dropped
@@ -321,11 +327,21 @@ pub record CallsMacro (finished : Maps) (s : State) (i : ℕ) (d : MacroDirectiv
   pub reaches : called_macro finished s.core.local s.core.map d ≡ Some makro
   pub expands : has_expansion d makro ≡ true
 
--- and isn't deeper than calls may be; this is the macro's text
+-- and isn't deeper than calls may be; this is the macro's text, and what the macro asks for first reaches macros
 pub record Expands (finished : Maps) (s : State) (i : ℕ) (d : MacroDirective) (makro : MacroId) (x : Expanding) : Type 0 where
   pub called : CallsMacro finished s i d makro
   pub shallow : d.site.level < s.core.map.crate_data.recursion_limit
   pub text : IsTextOf finished s.core.map makro x.text
+  pub first : IsGrown finished s.core.local s.core.map d.site.home makro x.there x.grown
+
+-- or the macro asks for a path first that reaches none
+pub record MeetsEager (finished : Maps) (s : State) (i : ℕ) (d : MacroDirective) (makro : MacroId) (x : EagerLook) : Type 0 where
+  pub called : CallsMacro finished s i d makro
+  pub shallow : d.site.level < s.core.map.crate_data.recursion_limit
+  pub text : IsTextOf finished s.core.map makro x.text
+  pub path : Path
+  pub asked : Contains (asked_first makro x.there) path
+  pub missing : inner_macro finished s.core.local s.core.map d.site.home path ≡ None
 
 -- a call that is too deep
 pub record IsDeep (s : State) (i : ℕ) (d : MacroDirective) : Type 0 where
@@ -392,6 +408,7 @@ May finished s (exports_macro site head name d e rest) = Exports finished s site
 May finished s (reaches_call site head path rest) = IsNext s (visit site (leaf head (macro_call path))) rest
 May finished s rests = MayRest finished s
 May finished s (expands_call i d makro x) = Expands finished s i d makro x
+May finished s (meets_macro i d makro x) = MeetsEager finished s i d makro x
 May finished s (drops_call i d) = IsDeep s i d
 May finished s (drops_reached i d makro) = IsReachedDeep finished s i d makro
 May finished s (derives_builtin i d makro imp) = DerivesBuiltin finished s i d makro imp
@@ -428,6 +445,7 @@ reads s (exports_macro site head name d e rest) = []
 reads s (reaches_call site head path rest) = []
 reads s rests = []
 reads s (expands_call i d makro x) = text_readings makro x.text ++ expansion_readings s.core.map.id.krate d x
+reads s (meets_macro i d makro x) = eager_readings s.core.map.id.krate d makro x
 reads s (drops_call i d) = []
 reads s (drops_reached i d makro) = []
 reads s (derives_builtin i d makro imp) = []
@@ -459,6 +477,7 @@ Numbered tables s (exports_macro site head name d e rest) = Unit {0}
 Numbered tables s (reaches_call site head path rest) = Unit {0}
 Numbered tables s rests = Unit {0}
 Numbered tables s (expands_call i d makro x) = IsNumberedCall tables s.core.map.id.krate d makro x
+Numbered tables s (meets_macro i d makro x) = IsNumberedEager tables s.core.map.id.krate d makro x
 Numbered tables s (drops_call i d) = Unit {0}
 Numbered tables s (drops_reached i d makro) = Unit {0}
 Numbered tables s (derives_builtin i d makro imp) = Unit {0}
@@ -561,6 +580,7 @@ acts finished s (expands_call i d makro x) =
     ends i Handled ∷ goes_on (visits_over (call_site d x.id) x.tree.tree.items) ∷ notes d.site.home (invocation_of d x.id)
     ∷ bringing d.ast_id (helpers_brought finished s.core.map d makro (Some (either.Left x.id))) ++ failing (module_id s.core.map d.site.home) d
     (error_of x.there)
+acts finished s (meets_macro i d makro x) = meets_eager i (record { makro = makro; inner = asked_first makro x.there }) ∷ []
 acts finished s (drops_call i d) = ends i Handled ∷ []
 acts finished s (drops_reached i d makro) = ends i Handled ∷ bringing d.ast_id (helpers_brought finished s.core.map d makro None)
 acts finished s (derives_builtin i d makro imp) =
@@ -568,7 +588,7 @@ acts finished s (derives_builtin i d makro imp) =
     ∷ bringing d.ast_id (helpers_brought finished s.core.map d makro (Some (either.Right imp)))
 acts finished s (skips_attribute i d k item) = ends i Handled ∷ goes_on (visits (visit_behind d k item) ∷ []) ∷ []
 acts finished s (falls_back i d k item) =
-    ends i GivenUp ∷ tells (call_report s.core.map.id d) ∷ goes_on (visits (visit_behind d k item) ∷ []) ∷ []
+    ends i GivenUp ∷ tells (call_report finished s.core.local s.core.map d (eager_at s.core i)) ∷ goes_on (visits (visit_behind d k item) ∷ []) ∷ []
 acts finished s (resolves_imports rule) = list_map changes_imports (import_acts finished (import_state s) rule)
 
 -- ---- the same for all rules

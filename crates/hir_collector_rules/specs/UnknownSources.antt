@@ -1,24 +1,33 @@
 -- When does a run meet a source that has no number?
-use Rattle.std.specs.Prelude.{◌<◌, ℕ, IsSome}
+use Rattle.std.specs.Prelude.{◌≡◌, ◌<◌, ℕ, IsSome, Some}
+use Rattle.hir_nameres.specs.HirBase.ModPath.{Path}
 use Rattle.hir_nameres.specs.HirIds.declared.macro_kind.MacroId.{MacroId}
 use Rattle.hir_tables.specs.Tables.{TablesValue, source_of}
 use Rattle.hir_nameres.specs.HirDefMapRules.Overlay.{Maps}
 use Rattle.hir_collector_rules.specs.declared.macro_directive.MacroDirective.{MacroDirective}
 use Rattle.hir_collector_rules.specs.Workspace.{Workspace}
+use Rattle.hir_collector_rules.specs.Calls.{inner_macro}
 use Rattle.hir_collector_rules.specs.Keys.{Environment, IsMeant, environment}
 use Rattle.hir_collector_rules.specs.ModuleFiles.{IsFileMeant, file_of_tree}
 use Rattle.hir_collector_rules.specs.State.{State}
 use Rattle.hir_collector_rules.specs.Start.{Beginning, begin_of, read_by}
 use Rattle.hir_collector_rules.specs.Steps.{CallsMacro, Steps}
 
--- a call, a path of a derive or an attribute reaches a macro that has an expansion, isn't too deep, and the source that writes the macro has no number
+-- the source that writes a macro has no number, or that of one which a path reaches in a module
+pub data IsUnknown (tables : TablesValue) (finished : Maps) (s : State) (home : ℕ) (makro : MacroId) : Type 0 where
+  of_itself : ¬ IsMeant tables makro → IsUnknown tables finished s home makro
+  of_inner : (path : Path) (inner : MacroId) → inner_macro finished s.core.local s.core.map home path ≡ Some inner → ¬ IsMeant tables inner
+      → IsUnknown tables finished s home makro
+
+-- a call, a path of a derive or an attribute reaches a macro that has an expansion, isn't too deep, and the source that writes the macro, or one of those
+-- that it asks for first, has no number
 pub record ReachesUnknownSource (tables : TablesValue) (finished : Maps) (s : State) : Type 0 where
   pub place : ℕ
   pub call : MacroDirective
   pub makro : MacroId
   pub called : CallsMacro finished s place call makro
   pub shallow : call.site.level < s.core.map.crate_data.recursion_limit
-  pub unknown : ¬ IsMeant tables makro
+  pub unknown : IsUnknown tables finished s call.site.home makro
 
 -- steps lead on from here to where that is so
 pub record LeadsToUnknownSource (env : Environment) (finished : Maps) (from : State) : Type 0 where

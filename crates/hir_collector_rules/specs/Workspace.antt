@@ -1,5 +1,5 @@
 -- What is handed in: the crates, and what each of their sources has.
-use Rattle.std.specs.Prelude.{ℕ, nat_lt, Bool, List, [], Option, None, Some, filter, map, option_map, slice_get}
+use Rattle.std.specs.Prelude.{ℕ, nat_lt, Bool, List, [], Option, None, Some, filter, map, option_map, slice_get, unwrap_or}
 use Rattle.hir_nameres.specs.HirBase.ModPath.{Path}
 use Rattle.hir_nameres.specs.HirBase.declared.cfg.CfgAtom.{CfgAtom}
 use Rattle.hir_nameres.specs.HirIds.declared.ids.Crate.{Crate}
@@ -45,7 +45,7 @@ pub record EntryLook : Type 0 where
 
 -- the plain value of that
 abbrev pub entry_look : ExpansionLook → EntryLook
-entry_look e = record { present = e.present; error = option_map (λ text. text.now) e.error; inner = e.inner.now }
+entry_look e = record { present = e.present; error = option_map (λ text. text.now) e.error; inner = unwrap_or (option_map (λ paths. paths.now) e.inner) [] }
 
 -- the crates by number; what a source has under each crate; expansions
 pub record Workspace : Type 0 where

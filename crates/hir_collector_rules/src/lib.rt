@@ -10,6 +10,7 @@ pub mod collected;
 pub mod crate_attrs;
 pub mod declaration;
 pub mod exported;
+pub mod inner_paths;
 pub mod macro_directive;
 pub mod names;
 pub mod shared_tree;

@@ -1,7 +1,8 @@
 //! What waits for a macro.
-ghost use Rattle.std.specs.Prelude.{◌≡◌, IfOk, option_map};
+ghost use Rattle.std.specs.Prelude.{◌≡◌, [], ◌∷◌, ◌++◌, IfOk, OnOk, option_map};
 ghost use Rattle.hir_collector_rules.specs.Calls.{call_kind, call_style, has_expansion, is_builtin_for, is_call, path_of_call, style_of, suits, waiting_item};
 
+use crate::inner_paths::InnerPaths;
 use crate::shared_tree::SharedTree;
 use crate::site::Site;
 use hir_base::ast_id::{AstId, AttrId};
@@ -12,7 +13,8 @@ use hir_base::macro_kind::{
 use hir_base::mod_path::ModPath;
 use hir_base::resolve_mode::MacroSubNs;
 use hir_item_tree::rows::ModItemId;
-use std::alloc::AllocError;
+use std::alloc::{AllocError, Global};
+use std::marker::Model;
 
 /// An item that waits for the macro of one of its attributes.
 #[derive(Drop)]
@@ -55,6 +57,54 @@ pub struct MacroDirective {
     /// The call, or the item that has the attribute.
     pub ast_id: AstId,
     pub kind: MacroDirectiveKind,
+}
+
+/// An eager macro that a call reached, and the paths that it asks to have resolved before the call is expanded.
+#[derive(Drop)]
+pub struct EagerMacro {
+    pub makro: MacroId,
+    pub inner: InnerPaths,
+}
+
+/// The eager macros that a call reached while a path that they ask for first reached nothing, in order.
+#[derive(Drop)]
+pub struct EagerMacros {
+    seen: Vec<EagerMacro>,
+}
+
+impl Model for EagerMacros {
+    ghost use Rattle.std.specs.Prelude.{List};
+    ghost use Rattle.hir_collector_rules.specs.declared.macro_directive.EagerMacro.{EagerMacro};
+
+    ghost Value = { List EagerMacro };
+
+    ghost view = { λ e. e.seen.items };
+}
+
+impl EagerMacros {
+    /// None.
+    pub fn new(alloc: Global) -> EagerMacros
+        ensures value { result ≡ [] }
+    {
+        EagerMacros {
+            seen: Vec::new(alloc),
+        }
+    }
+
+    /// One more.
+    pub fn add(&mut self, makro: EagerMacro) -> Result<(), AllocError>
+        ensures ok { OnOk result (self.new ≡ self.old ++ makro ∷ []) }
+    {
+        self.seen.push(makro)?;
+        Ok(())
+    }
+
+    /// All of them.
+    pub fn as_slice(&self) -> &[EagerMacro]
+        ensures value { result.now ≡ self.now }
+    {
+        self.seen.as_slice()
+    }
 }
 
 /// What became of what waits for a macro.

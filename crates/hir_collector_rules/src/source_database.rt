@@ -3,13 +3,13 @@ ghost use Rattle.std.specs.Prelude.{◌≡◌, IfOk, option_map};
 ghost use Rattle.hir_tables.specs.SourcePlaces.{expansion_value, source_value};
 ghost use Rattle.hir_collector_rules.specs.Workspace.{Workspace, config_view, crate_in, entry_look, transitive_dependencies_in};
 
+use crate::inner_paths::InnerPaths;
 use hir_base::ast_id::{AstId, EntryId};
 use hir_base::cfg_options::CfgOptions;
 use hir_base::edition::Edition;
 use hir_base::file_path::FilePath;
 use hir_base::ids::{Crate, EnumId, MapId};
 use hir_base::macro_kind::{ExpansionKey, MacroId};
-use hir_base::mod_path::ModPath;
 use hir_base::name::Name;
 use hir_base::text::Text;
 use hir_item_tree::raw_attr::RawAttr;
@@ -87,8 +87,8 @@ pub struct ExpansionLook<'a> {
     pub present: bool,
     /// Why its macro couldn't be expanded, if it couldn't.
     pub error: Option<&'a Text>,
-    /// The paths that its macro asks to have resolved first.
-    pub inner: &'a [ModPath],
+    /// The paths that its macro asks to have resolved first; none where it isn't there.
+    pub inner: Option<&'a InnerPaths>,
 }
 
 /// A workspace, one part at a time.

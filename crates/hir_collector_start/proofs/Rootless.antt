@@ -19,9 +19,9 @@ nothing_brought_there : (o : Option Brought) (by : Brought) → o ≡ None → o
 nothing_brought_there o by e h = let no : ⊥ = cc in no
 
 pub ready_empty : (tables : TablesValue) (finished : Maps) (c : Core) → c.globs ≡ no_recorded_globs → c.reached ≡ [] → c.taken ≡ [] → c.calls ≡ [] → c.fates
-    ≡ [] → IsInOrder c.map
+    ≡ [] → c.eager ≡ [] → IsInOrder c.map
     → IsReady tables finished c
-ready_empty tables finished c globs reached taken calls fates in_order = record {
+ready_empty tables finished c globs reached taken calls fates eager in_order = record {
   sound = record {
     there = λ j e h. absurd (nothing_at c.globs.edges j e (ap (λ (g : RecordedGlobs). g.edges) globs) h);
     stands = λ slot by h. absurd (nothing_brought_there (c.globs.brought slot) by (ap (λ (g : RecordedGlobs). g.brought slot) globs) h);
@@ -30,6 +30,7 @@ ready_empty tables finished c globs reached taken calls fates in_order = record 
   imports = λ i r h. absurd (nothing_at c.reached i r reached h);
   paired = ap length taken ∙ sym (ap length reached);
   fated = ap length fates ∙ sym (ap length calls);
+  listed = ap length eager ∙ sym (ap length calls);
   calls = λ i d h. absurd (nothing_at c.calls i d calls h);
   meant = λ i d h. absurd (nothing_at c.calls i d calls h);
   in_order = in_order;

@@ -1,9 +1,12 @@
 //! The diagnostics of a run.
-ghost use Rattle.std.specs.Prelude.{◌≡◌, ◌++◌, ◌∷◌, [], IfOk, OnOk, map};
+ghost use Rattle.std.specs.Prelude.{◌≡◌, ◌++◌, [], IfOk, OnOk, drop, map};
 ghost use Rattle.hir_collector_rules.specs.HirBase.Cfg.{cfg_view};
+ghost use Rattle.hir_collector_rules.specs.HirNameres.WorldParts.{part_of};
 ghost use Rattle.hir_collector_rules.specs.CrateTop.{with_names};
+ghost use Rattle.hir_collector_rules.specs.State.{eager_among};
 ghost use Rattle.hir_collector_rules.specs.Reports.{IsUnconfigured, IsUnresolvedModule, begins_with, call_report, crate_names, crates_among, report_by, reports_of, unresolved_among, unresolved_calls, with_diagnostics};
 
+use crate::called::told_path;
 use hir_base::ast_id::{AstId, AstKind};
 use hir_base::cfg::CfgExpr;
 use hir_base::cfg_options::CfgOptions;
@@ -14,7 +17,9 @@ use hir_base::text::Text;
 use hir_collector_rules::hir_import_rules::{ImportDirective, ImportSource, Taken};
 use hir_collector_rules::hir_nameres::nameres::DefMap;
 use hir_collector_rules::hir_nameres::nameres::diagnostics::DefDiagnostic;
-use hir_collector_rules::macro_directive::{Fate, MacroDirective};
+use hir_collector_rules::hir_nameres::nameres::local_def_map::LocalDefMap;
+use hir_collector_rules::hir_nameres::world::part::WorldPart;
+use hir_collector_rules::macro_directive::{EagerMacro, EagerMacros, Fate, MacroDirective};
 use hir_item_tree::shared_path::SharedPath;
 use hir_mod_dir::Candidate;
 use std::alloc::{AllocError, Global};
@@ -181,41 +186,73 @@ pub fn report_unresolved(
     Ok(())
 }
 
-/// Reports the macro calls, paths of derives and attributes that wait, in their order.
-pub fn report_calls(
-    map: &mut DefMap,
+/// The eager macros that the first of some calls reached, and those of the others.
+fn split_eager(eager: &[EagerMacros]) -> (&[EagerMacro], &[EagerMacros])
+    ensures first { result.0.now ≡ eager_among eager.now 0 }
+    ensures others { result.1.now ≡ drop 1 eager.now }
+{
+    match eager {
+        [first, others @ ..] => (first.as_slice(), others),
+        [] => (&[], &[]),
+    }
+}
+
+/// What is told of the macro calls, paths of derives and attributes that wait, in their order.
+pub fn unresolved_calls(
+    alloc: Global,
+    world: WorldPart<'_>,
+    map: &DefMap,
+    local: &LocalDefMap,
     calls: &[MacroDirective],
     fates: &[Fate],
-) -> Result<(), AllocError>
-    ensures ok { OnOk result (map.new ≡ with_diagnostics map.old (unresolved_calls map.old.id calls.now fates.now)) }
+    eager: &[EagerMacros],
+) -> Result<Vec<DefDiagnostic>, AllocError>
+    ensures value { IfOk result (λ told. told.items ≡ unresolved_calls (part_of world.entry) local.now map.now calls.now fates.now eager.now) }
 {
+    let mut told = Vec::new(alloc);
     let mut left = calls;
     let mut left_fates = fates;
+    let mut left_eager = eager;
     'next: while let [call, others @ ..] = left {
         let [fate, other_fates @ ..] = left_fates else {
-            return Ok(());
+            return Ok(told);
         };
+        let (seen, other_eager) = split_eager(left_eager);
         match fate {
-            Fate::Waits => report_call(map, call)?,
+            Fate::Waits => told.push(call_report(world, map, local, call, seen)?)?,
             Fate::Handled | Fate::GivenUp => {}
         }
         left = others;
         left_fates = other_fates;
+        left_eager = other_eager;
     }
-    Ok(())
+    Ok(told)
 }
 
-/// Reports what reached no macro.
-fn report_call(map: &mut DefMap, call: &MacroDirective) -> Result<(), AllocError>
-    ensures ok { OnOk result (map.new ≡ with_diagnostics map.old (call_report map.old.id call.now ∷ [])) }
+/// What is told of a call that reached no macro, or one that asks for a path first which reached none.
+pub fn call_report(
+    world: WorldPart<'_>,
+    map: &DefMap,
+    local: &LocalDefMap,
+    call: &MacroDirective,
+    seen: &[EagerMacro],
+) -> Result<DefDiagnostic, AllocError>
+    ensures value { IfOk result (λ d. d ≡ call_report (part_of world.entry) local.now map.now call.now seen.now) }
 {
     let at = ModuleId {
         map: map.id(),
         index: call.site.home,
     };
-    map.add_diagnostic(DefDiagnostic::unresolved_macro_call(
-        at,
-        call.call_kind(),
-        call.path().clone()?,
-    ))
+    let path = told_path(world, map, local, call, seen);
+    Ok(DefDiagnostic::unresolved_macro_call(at, call.call_kind(), path.clone()?))
+}
+
+/// Adds diagnostics, in their order.
+pub fn report_all(map: &mut DefMap, told: Vec<DefDiagnostic>) -> Result<(), AllocError>
+    ensures ok { OnOk result (map.new ≡ with_diagnostics map.old told.items) }
+{
+    for report in told {
+        map.add_diagnostic(report)?;
+    }
+    Ok(())
 }

@@ -2,6 +2,7 @@
 //! and helpers in scope, the sources that it asks for, and what is reported of what is left over.
 #![tactic(auto)]
 
+pub mod called;
 pub mod censor;
 pub mod crate_top;
 pub mod diagnostics;

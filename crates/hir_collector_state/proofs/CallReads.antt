@@ -1,7 +1,9 @@
 -- What waits and whose slots stand for what they stood for reaches the same macro, while the map grows.
-use Rattle.std.proofs.Common.{◌≡◌, ◌∙◌, ap, sym, subst, refl, ℕ, ◌<◌, ◌&&◌, Bool, true, false, length, List, [], ◌∷◌, Option, None, Some, unwrap_or, arith}
+use Rattle.std.proofs.Common.{◌≡◌, ◌∙◌, ap, sym, subst, refl, ℕ, ◌<◌, ◌&&◌, Bool, true, false, length, List, [], ◌∷◌, ◌++◌, Option, None, Some, unwrap_or}
+use Rattle.std.proofs.Common.{arith}
 use Rattle.std.specs.List.{All}
 use Rattle.std.specs.Option.{option_map}
+use Rattle.std.proofs.lemmas.List.Elements.{All-cons, All-head, All-nil, All-tail}
 use Rattle.hir_collector_rules.specs.HirBase.ModPath.{Path}
 use Rattle.hir_collector_rules.specs.HirIds.contracts.ids.MapIdPartialEq.TheImpl as map_id
 use Rattle.hir_collector_rules.specs.HirIds.declared.ast_id.AstId.{AstId}
@@ -16,7 +18,6 @@ use Rattle.hir_collector_rules.proofs.HirDefMapRules.Fails.{Fails-nowhere}
 use Rattle.hir_collector_rules.specs.HirDefMapRules.Macros.{helpers_at}
 use Rattle.hir_collector_rules.specs.HirDefMapRules.Overlay.{Maps, overlay}
 use Rattle.hir_collector_rules.specs.HirDefMapRules.Scoping.{resolution_of}
-use Rattle.hir_collector_rules.specs.HirDefMapRules.Scoping.Asking.{Asking}
 use Rattle.hir_collector_rules.specs.HirDefMapRules.State.{IsBefore, IsInOrder, Local, Map, entry_at, numbered, parent_at, parent_of}
 use Rattle.hir_collector_rules.specs.HirNameres.declared.nameres.path_resolution.slots.Slot.{Slot as PathSlot}
 use Rattle.hir_collector_rules.specs.HirNameres.declared.nameres.path_resolution.slots.Slot.TheVariants.{Module as of_module, Preludes as of_preludes}
@@ -31,9 +32,14 @@ use Rattle.hir_collector_rules.specs.declared.macro_directive.MacroDirectiveKind
 use Rattle.hir_collector_rules.specs.declared.macro_directive.WaitingItem.{WaitingItem}
 use Rattle.hir_collector_rules.specs.declared.macro_directive.MacroDirectiveKind.TheVariants.{Attr, Derive, FnLike}
 use Rattle.hir_collector_rules.specs.Attributes.{is_helper_among}
-use Rattle.hir_collector_rules.specs.Calls.{by_style, called_macro, is_inert_by, item_in, path_of_call, style_of, suited}
-use Rattle.hir_collector_state.specs.Waiting.{KeepsModules, StandsStill, call_reads, is_helped}
-use Rattle.hir_collector_rules.specs.State.{Core}
+use Rattle.hir_collector_rules.specs.HirBase.declared.resolve_mode.MacroSubNs.{MacroSubNs}
+use Rattle.hir_collector_rules.specs.HirBase.declared.resolve_mode.MacroSubNs.TheVariants.{Bang}
+use Rattle.hir_collector_rules.specs.HirNameres.Scoping.Slots.{reads}
+use Rattle.hir_collector_rules.specs.Calls.{LacksMacro, by_style, called_macro, inner_macro, is_inert_by, item_in, lacks_inner, macro_among, path_of_call}
+use Rattle.hir_collector_rules.specs.Calls.{reaches_none, style_of, suited}
+use Rattle.hir_collector_state.specs.Waiting as vain
+use Rattle.hir_collector_state.specs.Waiting.{KeepsModules, ReadsInVain, StandsStill, call_reads, inner_reads, is_helped}
+use Rattle.hir_collector_rules.specs.State.{Core, eager_at}
 use Rattle.hir_collector_state.proofs.EnumMacros.{enums_bring_no_macro, macros_of}
 
 -- ---- what a slot stands for, at two times
@@ -123,35 +129,59 @@ module _ (finished : Maps) (one other : Map) (apart : KeepApart finished one.id)
     variants = λ id e. refl;
   }
 
-  module _ (local other_local : Local) (outside : BeginsOutside one.id local) (d : MacroDirective) (low : d.site.home < length one.modules) where
-    abbrev asked_by : Local → Asking
-    asked_by l = by_style (style_of d.kind) l
-
-    abbrev path : Path
-    path = path_of_call d
-
+  module _ (local other_local : Local) (outside : BeginsOutside one.id local) (style : MacroSubNs) (home : ℕ) (path : Path) (low : home < length one.modules) where
     -- the slots agree also with the map as it is now but for its enums
     agree_bare : (slot : PathSlot) → AgreeAt one local other other_local slot → AgreeAt one local bare other_local slot
     agree_bare (of_module at name) a = record { entries = a.entries; legacy = a.legacy }
     agree_bare (of_preludes name) a = record { crates = a.crates; macro_uses = a.macro_uses }
 
-    alike : All (AgreeAt one local other other_local) (call_reads finished local one d) → IsReadAlike finished one (asked_by local) bare other_local
-        (numbered one.id d.site.home) path
-    alike agree = reads_alike change (asked_by local) other_local outside d.site.home low path (λ n x l. agree_bare _ (agree n x l))
+    alike : All (AgreeAt one local other other_local) (reads finished (by_style style local) one (numbered one.id home) path)
+        → IsReadAlike finished one (by_style style local) bare other_local (numbered one.id home) path
+    alike agree = reads_alike change (by_style style local) other_local outside home low path (λ n x l. agree_bare _ (agree n x l))
 
-    -- a call reaches the macro that it reached
-    pub same_macro : All (AgreeAt one local other other_local) (call_reads finished local one d) → called_macro finished other_local other d
-        ≡ called_macro finished local one d
-    same_macro agree =
-        ap (λ (o : Option (Item MacroId ImportOrExternCrate)). suited d.kind (option_map (λ (i : Item MacroId ImportOrExternCrate). i.def) o))
-        ((λ i. macros_of (resolution_of (overlay finished other) (asked_by other_local) (numbered (keeps.id i) d.site.home) path))
-        ∙ sym (enums_bring_no_macro finished other one.enums (asked_by other_local) path.kind path.segments (numbered one.id d.site.home))
+    -- a path reaches the macro that it reached
+    pub same_reached : All (AgreeAt one local other other_local) (reads finished (by_style style local) one (numbered one.id home) path)
+        → macro_among (resolution_of (overlay finished other) (by_style style other_local) (numbered other.id home) path).resolved_def
+        ≡ macro_among (resolution_of (overlay finished one) (by_style style local) (numbered one.id home) path).resolved_def
+    same_reached agree =
+        ap (λ (o : Option (Item MacroId ImportOrExternCrate)). option_map (λ (i : Item MacroId ImportOrExternCrate). i.def) o)
+        ((λ i. macros_of (resolution_of (overlay finished other) (by_style style other_local) (numbered (keeps.id i) home) path))
+        ∙ sym (enums_bring_no_macro finished other one.enums (by_style style other_local) path.kind path.segments (numbered one.id home))
         ∙ ap macros_of (alike agree).answers)
 
--- a call that stands still reaches no macro
-pub stands_nowhere : (finished : Maps) (c : Core) (d : MacroDirective) (seen : List PathSlot) (s : StandsStill finished c d seen) → KeepApart finished c.map.id
-    → called_macro finished c.local c.map d ≡ None
-stands_nowhere finished c d seen s apart =
-    same_macro finished s.map c.map (subst (λ (id : MapId). KeepApart finished id) s.keeps.id apart) s.in_order s.keeps s.local c.local s.outside d s.low
-    (subst (All (AgreeAt s.map s.local c.map c.local)) s.read s.agree)
-    ∙ s.nowhere
+-- what holds of each of two lists holds of each
+module _ {X : Type 0} (P : X → Type 0) where
+  all_left : (xs ys : List X) → All P (xs ++ ys) → All P xs
+  all_left [] ys all = All-nil P
+  all_left (x ∷ xs) ys all = All-cons P x xs (All-head P x (xs ++ ys) all) (all_left xs ys (All-tail P x (xs ++ ys) all))
+
+  all_right : (xs ys : List X) → All P (xs ++ ys) → All P ys
+  all_right [] ys all = all
+  all_right (x ∷ xs) ys all = all_right xs ys (All-tail P x (xs ++ ys) all)
+
+-- a call that stands still reaches no macro with all that this asks for first
+module _ (finished : Maps) (c : Core) (i : ℕ) (d : MacroDirective) (seen : List PathSlot) (s : StandsStill finished c i d seen) (apart : KeepApart finished c.map.id) where
+  before_apart : KeepApart finished s.map.id
+  before_apart = subst (λ (id : MapId). KeepApart finished id) s.keeps.id apart
+
+  same_macro : All (AgreeAt s.map s.local c.map c.local) (call_reads finished s.local s.map d) → called_macro finished c.local c.map d
+      ≡ called_macro finished s.local s.map d
+  same_macro agree =
+      ap (suited d.kind)
+      (same_reached finished s.map c.map before_apart s.in_order s.keeps s.local c.local s.outside (style_of d.kind) d.site.home (path_of_call d) s.low agree)
+
+  same_inner : (path : Path) → All (AgreeAt s.map s.local c.map c.local) (inner_reads finished s.local s.map d.site.home path)
+      → inner_macro finished c.local c.map d.site.home path ≡ inner_macro finished s.local s.map d.site.home path
+  same_inner path agree = same_reached finished s.map c.map before_apart s.in_order s.keeps s.local c.local s.outside Bang d.site.home path s.low agree
+
+  pub stands_nowhere : LacksMacro finished c i d
+  stands_nowhere = go s.vain
+    where
+      go : ReadsInVain finished s.local s.map (eager_at c i) d seen → LacksMacro finished c i d
+      go (vain.reaches_none nowhere read) = reaches_none (same_macro (subst (All (AgreeAt s.map s.local c.map c.local)) read s.agree) ∙ nowhere)
+      go (vain.lacks_inner makro by path called known same among missing read) =
+          let both = subst (All (AgreeAt s.map s.local c.map c.local)) read s.agree in
+          let own = call_reads finished s.local s.map d in
+          let inner = inner_reads finished s.local s.map d.site.home path in
+          lacks_inner makro by path (same_macro (all_left (AgreeAt s.map s.local c.map c.local) own inner both) ∙ called) known same among
+          (same_inner path (all_right (AgreeAt s.map s.local c.map c.local) own inner both) ∙ missing)

@@ -14,7 +14,8 @@ use Rattle.hir_collector_rules.specs.Keys.{Environment}
 use Rattle.hir_collector_rules.specs.State.{State, import_state}
 use Rattle.hir_collector_rules.specs.Changes.{Change, lists, makes, gives_variants, begins_paths, reaches, awaits, ends, settles, changes_imports, adds_textual}
 use Rattle.hir_collector_rules.specs.Changes.{takes_textual, defines, describes, helps, lists_derive, notes, exports, uses_macros, tells, goes_on, act}
-use Rattle.hir_collector_rules.specs.Steps.{Rule, drops_item, reaches_call, rests, expands_call, drops_call, defines_rules, defines_macro, closes_module}
+use Rattle.hir_collector_rules.specs.Steps.{Rule, drops_item, reaches_call, rests, expands_call, meets_macro, drops_call, defines_rules, defines_macro}
+use Rattle.hir_collector_rules.specs.Steps.{closes_module}
 use Rattle.hir_collector_rules.specs.Steps.{declares_item, declares_enum, lists_constant, lists_impl, opens_module, opens_file, drops_file, misses_file}
 use Rattle.hir_collector_rules.specs.Steps.{enters_block, reaches_imports, reaches_crate, resolves_imports, May, acts, asking, Step, awaits_attribute}
 use Rattle.hir_collector_rules.specs.Steps.{lists_derives, faults_derive, exports_macro, drops_reached, derives_builtin, skips_attribute, falls_back}
@@ -112,6 +113,7 @@ made_inside finished s (defines_macro site head name expander helpers rest) may 
     (tt, (tt, (tt, (tt, (tt, fine_reporting MadeInside _ _ expander (λ t. tt) _)))))
 made_inside finished s (lists_derives v at a adt paths call rest) may p = (tt, (tt, (tt, tt)))
 made_inside finished s (exports_macro site head name d e rest) may p = (tt, (tt, (tt, (tt, (tt, (tt, (tt, tt)))))))
+made_inside finished s (meets_macro i d makro x) may p = (tt, tt)
 made_inside finished s rests may p = (tt, tt)
 made_inside finished s (expands_call i d makro x) may p =
     (tt, (tt, (tt, fine_expanding MadeInside _ (λ t helper. tt) _ _ d (error_of x.there) (λ t text. tt) _)))

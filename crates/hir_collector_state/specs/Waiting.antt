@@ -1,5 +1,5 @@
 -- What has changed of a run, and which slots do its calls read?
-use Rattle.std.specs.Prelude.{◌≡◌, ℕ, ◌<◌, ◌≤◌, Bool, false, [], List, None, Some, length, option_map, slice_get, unwrap_or}
+use Rattle.std.specs.Prelude.{◌≡◌, ℕ, ◌<◌, ◌≤◌, Bool, true, false, Contains, [], ◌++◌, List, None, Some, length, option_map, slice_get, unwrap_or}
 use Rattle.std.specs.List.{All}
 use Rattle.hir_collector_rules.specs.HirIds.declared.ast_id.AstId.{AstId}
 use Rattle.hir_collector_rules.specs.HirIds.declared.ids.EnumId.{EnumId}
@@ -11,10 +11,14 @@ use Rattle.hir_collector_rules.specs.HirNameres.declared.nameres.path_resolution
 use Rattle.hir_def_map_laws.specs.ReadLaw.{AgreeAt, BeginsOutside}
 use Rattle.hir_import_growth.specs.Growth.{GlobsLast}
 use Rattle.hir_collector_rules.specs.HirImportRules.Changed.{IsThere, IsUnhelped, IsUntouched}
+use Rattle.hir_collector_rules.specs.HirBase.ModPath.{Path}
+use Rattle.hir_collector_rules.specs.HirBase.declared.resolve_mode.MacroSubNs.TheVariants.{Bang}
+use Rattle.hir_collector_rules.specs.HirIds.declared.macro_kind.MacroId.{MacroId}
+use Rattle.hir_collector_rules.specs.declared.macro_directive.EagerMacro.{EagerMacro}
 use Rattle.hir_collector_rules.specs.declared.macro_directive.MacroDirective.{MacroDirective}
 use Rattle.hir_collector_rules.specs.Attributes.{is_named_by}
-use Rattle.hir_collector_rules.specs.Calls.{by_style, called_macro, path_of_call, style_of}
-use Rattle.hir_collector_rules.specs.State.{Core, Run, at_rest, core_in, import_state}
+use Rattle.hir_collector_rules.specs.Calls.{by_style, called_macro, inner_macro, is_same_macro, path_of_call, style_of}
+use Rattle.hir_collector_rules.specs.State.{Core, Run, at_rest, core_in, eager_at, import_state}
 
 -- ---- what may have changed
 
@@ -72,12 +76,23 @@ pub record IsNotedBeside (finished : Maps) (old new : Run) : Type 0 where
 abbrev pub call_reads : Maps → Local → Map → MacroDirective → List PathSlot
 call_reads finished local m d = reads finished (by_style (style_of d.kind) local) m (numbered m.id d.site.home) (path_of_call d)
 
--- a call once reached no macro, and read these slots, of modules that were there; each stands for what it stood for then. No path began with a module of a block's own map
-pub record StandsStill (finished : Maps) (c : Core) (d : MacroDirective) (seen : List PathSlot) : Type 0 where
+-- the slots that a path reads which a macro asks to have resolved first
+abbrev pub inner_reads : Maps → Local → Map → ℕ → Path → List PathSlot
+inner_reads finished local m home path = reads finished (by_style Bang local) m (numbered m.id home) path
+
+-- a call has read these slots in vain: those of its path, which reaches no macro; or besides those of a path that its macro asks for first, which reaches none
+pub data ReadsInVain (finished : Maps) (local : Local) (m : Map) (eager : List EagerMacro) (d : MacroDirective) (seen : List PathSlot) : Type 0 where
+  reaches_none : called_macro finished local m d ≡ None → seen ≡ call_reads finished local m d → ReadsInVain finished local m eager d seen
+  lacks_inner : (makro : MacroId) (by : EagerMacro) (path : Path) → called_macro finished local m d ≡ Some makro → Contains eager by
+      → is_same_macro by.makro makro ≡ true → Contains by.inner path → inner_macro finished local m d.site.home path ≡ None
+      → seen ≡ call_reads finished local m d ++ inner_reads finished local m d.site.home path → ReadsInVain finished local m eager d seen
+
+-- the call at a place once read these slots in vain, of modules that were there; each stands for what it stood for then. No path began with a module of a
+-- block's own map
+pub record StandsStill (finished : Maps) (c : Core) (i : ℕ) (d : MacroDirective) (seen : List PathSlot) : Type 0 where
   pub map : Map
   pub local : Local
-  pub nowhere : called_macro finished local map d ≡ None
-  pub read : seen ≡ call_reads finished local map d
+  pub vain : ReadsInVain finished local map (eager_at c i) d seen
   pub low : d.site.home < length map.modules
   pub in_order : IsInOrder map
   pub there : All (IsThere (length map.modules)) seen

@@ -1,13 +1,13 @@
 //! Where a run stands, and what each change leaves.
 #![tactic(auto, unfolding(hir_collector_rules::specs::State::core_in))]
 
-ghost use Rattle.std.specs.Prelude.{◌≡◌, ◌<◌, ◌≤◌, true, false, ◌∷◌, [], Some, length, option_map, slice_get, slice_set, IfNone, IfOk, IfSome, None, OnOk};
+ghost use Rattle.std.specs.Prelude.{◌≡◌, ◌<◌, ◌≤◌, true, false, ◌∷◌, ◌++◌, [], Some, length, option_map, slice_get, slice_set, IfNone, IfOk, IfSome, None, OnOk};
 ghost use Rattle.hir_collector_rules.specs.HirDefMapRules.State.{with_enum, new_id, new_module, with_declared, with_use, with_impl, with_extern_block, with_extern_crate, with_unnamed_const};
 ghost use Rattle.hir_collector_rules.specs.HirNameres.WorldParts.{part_of};
 ghost use Rattle.hir_collector_rules.specs.HirDefMapRules.Macros.{with_diagnostic, with_macro_def};
 ghost use Rattle.hir_collector_rules.specs.HirImportRules.Visibilities.{visibility_in};
 ghost use Rattle.hir_collector_rules.specs.HirImportRules.Changed.{nothing};
-ghost use Rattle.hir_collector_rules.specs.State.{at_rest, core_in, counted, with_asked, with_bound, with_calls, with_fate, with_imports, with_local, with_map};
+ghost use Rattle.hir_collector_rules.specs.State.{at_rest, core_in, counted, eager_among, eager_at, with_asked, with_bound, with_calls, with_eager, with_fate, with_imports, with_local, with_map};
 ghost use Rattle.hir_collector_rules.specs.ItemIds.{container_of, module_id};
 ghost use Rattle.hir_collector_rules.specs.Items.{own_visibility};
 ghost use Rattle.hir_collector_rules.specs.Calls.{IsWaiting};
@@ -17,7 +17,8 @@ ghost use Rattle.hir_collector_rules.specs.Imports.{crate_named, dependency_name
 ghost use Rattle.hir_collector_rules.specs.Macros.{macros_brought, other_scope, textual_at, with_macros_used, with_textual_macro, with_textual_scope};
 ghost use Rattle.hir_collector_rules.specs.Start.{core_by};
 ghost use Rattle.hir_collector_rules.specs.ModuleFiles.{file_key};
-ghost use Rattle.hir_collector_rules.specs.Derivation.{collected_view, finished_run};
+ghost use Rattle.hir_collector_rules.specs.Reports.{call_report, unresolved_calls};
+ghost use Rattle.hir_collector_rules.specs.Derivation.{collected_view, told_run};
 ghost use Rattle.hir_collector_rules.specs.Moves.{begun};
 ghost use Rattle.hir_collector_state.specs.Waiting.{IsNoted};
 
@@ -48,12 +49,14 @@ use hir_collector_rules::hir_scope::glob_imports::PerNsGlobImports;
 use hir_collector_rules::hir_scope::item_scope::ItemScope;
 use hir_collector_rules::hir_scope::per_ns::PerNs;
 use hir_collector_rules::hir_scope::visibility::Visibility;
-use hir_collector_rules::macro_directive::{Fate, MacroDirective};
+use hir_collector_rules::macro_directive::{EagerMacro, EagerMacros, Fate, MacroDirective};
 use hir_collector_rules::site::{ItemHead, Site};
 use hir_collector_rules::source_database::{Dependency, Key};
 use hir_collector_rules::start::{STEP_LIMIT, Start, StepError};
 use hir_collector_start::censor::censor_root;
-use hir_collector_start::diagnostics::{report_calls, report_unresolved, unresolved_crates};
+use hir_collector_start::diagnostics::{
+    call_report, report_all, report_unresolved, unresolved_calls, unresolved_crates,
+};
 use hir_collector_start::first_keys::first_keys;
 use hir_collector_start::leftovers::untaken;
 use hir_collector_start::macro_use::{root_scope, use_prelude_macros, use_wanted};
@@ -85,6 +88,7 @@ pub struct DefCollector {
     pub taken: Vec<Taken>,
     pub calls: Vec<MacroDirective>,
     pub fates: Vec<Fate>,
+    pub eager: Vec<EagerMacros>,
     pub settled: usize,
     pub is_proc_macro: bool,
     pub exported: Vec<ExportedFunction>,
@@ -115,6 +119,7 @@ impl Model for DefCollector {
       taken = r.taken.items;
       calls = r.calls.items;
       fates = r.fates.items;
+      eager = r.eager.items;
       settled = r.settled;
       is_proc_macro = r.is_proc_macro;
       exported = r.exported.items;
@@ -158,6 +163,17 @@ fn end(fates: &mut Vec<Fate>, i: usize, fate: Fate)
     }
 }
 
+/// Adds an eager macro to those of the call at the place, if there is one.
+fn add_at(eager: &mut Vec<EagerMacros>, i: usize, seen: EagerMacro) -> Result<(), AllocError>
+    ensures ok { OnOk result (eager.new.items ≡ slice_set eager.old.items i (eager_among eager.old.items i ++ seen ∷ [])) }
+{
+    if i >= eager.len() {
+        drop(seen);
+        return Ok(());
+    }
+    eager[i].add(seen)
+}
+
 impl DefCollector {
     /// The root module alone, beside what all modules find; its tree and the maps of what holds a block asked for.
     pub fn start(
@@ -191,6 +207,7 @@ impl DefCollector {
             taken: Vec::new(alloc),
             calls: Vec::new(alloc),
             fates: Vec::new(alloc),
+            eager: Vec::new(alloc),
             settled: 0,
             is_proc_macro,
             exported: Vec::new(alloc),
@@ -560,6 +577,8 @@ impl DefCollector {
     {
         self.calls.push(call)?;
         self.fates.push(Fate::Waits)?;
+        let none = EagerMacros::new(self.allocator());
+        self.eager.push(none)?;
         Ok(())
     }
 
@@ -636,15 +655,63 @@ impl DefCollector {
         self.tick()
     }
 
-    /// What a run comes to: what waits still is left over, and reported.
+    /// The eager macros that the call at the place reached while a path that they ask for first reached nothing.
+    pub fn eager_at(&self, i: usize) -> &[EagerMacro]
+        ensures value { result.now ≡ eager_at (core_in self.now) i }
+    {
+        match self.eager.get(i) {
+            Some(seen) => seen.as_slice(),
+            None => &[],
+        }
+    }
+
+    /// Notes one more of them.
+    pub fn meet_eager(&mut self, i: usize, seen: EagerMacro) -> Result<(), AllocError>
+        ensures ok { OnOk result (core_in self.new ≡ with_eager (core_in self.old) i seen) }
+        ensures noted { OnOk result (IsNoted self.old self.new) }
+    {
+        add_at(&mut self.eager, i, seen)?;
+        Ok(())
+    }
+
+    /// What is told of the call at the place where it is left over, or given up.
+    pub fn call_report(
+        &self,
+        world: WorldPart<'_>,
+        i: usize,
+        call: &MacroDirective,
+    ) -> Result<DefDiagnostic, AllocError>
+        ensures value { IfOk result (λ d. d ≡ call_report (part_of world.entry) (core_in self.now).local (core_in self.now).map call.now (eager_at (core_in self.now) i)) }
+    {
+        call_report(world, &self.map, &self.local, call, self.eager_at(i))
+    }
+
+    /// What is told of calls that are left over.
+    pub fn unresolved_calls(&self, world: WorldPart<'_>) -> Result<Vec<DefDiagnostic>, AllocError>
+        ensures value { IfOk result (λ told. told.items ≡ unresolved_calls (part_of world.entry) (core_in self.now).local (core_in self.now).map (core_in self.now).calls
+            (core_in self.now).fates (core_in self.now).eager) }
+    {
+        unresolved_calls(
+            self.allocator(),
+            world,
+            &self.map,
+            &self.local,
+            &self.calls,
+            &self.fates,
+            &self.eager,
+        )
+    }
+
+    /// What a run comes to: what waits still is left over, which is told so, and imports that were never taken are.
     ///
     /// After rust-analyzer's `DefCollector::finish`.
     pub fn finish(
         self,
+        calls_told: Vec<DefDiagnostic>,
         round_limit_met: bool,
         transitive: Rc<CrateSet>,
     ) -> Result<Collected, AllocError>
-        ensures value { IfOk result (λ c. collected_view c ≡ finished_run (core_in self) round_limit_met transitive.value) }
+        ensures value { IfOk result (λ c. collected_view c ≡ told_run (core_in self) calls_told.items round_limit_met transitive.value) }
     {
         let alloc = self.allocator();
         let leftover = untaken(alloc, &self.reached, &self.taken)?;
@@ -654,7 +721,7 @@ impl DefCollector {
         if self.is_proc_macro {
             censor_root(&mut map, &self.exported);
         }
-        report_calls(&mut map, &self.calls, &self.fates)?;
+        report_all(&mut map, calls_told)?;
         report_unresolved(&mut map, &names, &self.reached, &self.taken)?;
         Ok(Collected {
             map,

@@ -118,9 +118,11 @@ pub fn collect_defs<D: SourceDatabase>(
         tree,
     )?;
     if is_unknown {
-        return Ok(run.finish(false, transitive)?);
+        let told = run.unresolved_calls(part)?;
+        return Ok(run.finish(told, false, transitive)?);
     }
     let apart = is_apart(world, start, &run);
     let (run, round_limit_met) = resolve_rounds(run, db, part, locations, apart)?;
-    Ok(run.finish(round_limit_met, transitive)?)
+    let told = run.unresolved_calls(part)?;
+    Ok(run.finish(told, round_limit_met, transitive)?)
 }

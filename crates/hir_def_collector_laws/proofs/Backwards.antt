@@ -59,7 +59,8 @@ use Rattle.hir_collector_rules.specs.Macros.{is_macro_use, macro_declaration}
 use Rattle.hir_collector_rules.specs.ModuleFiles.{IsNumbered, ModuleFile, Search, file_key, file_readings, file_tree, module_file, tried_in}
 use Rattle.hir_collector_rules.specs.Start.{Beginning}
 use Rattle.hir_collector_rules.specs.State.{Core, State, Task, Visit, behind, visits, import_state, visits_over}
-use Rattle.hir_collector_rules.specs.Steps.{Rule, drops_item, awaits_attribute, lists_derives, faults_derive, exports_macro, reaches_call, rests, expands_call}
+use Rattle.hir_collector_rules.specs.Steps.{Rule, drops_item, awaits_attribute, lists_derives, faults_derive, exports_macro, reaches_call, rests}
+use Rattle.hir_collector_rules.specs.Steps.{expands_call, meets_macro}
 use Rattle.hir_collector_rules.specs.Steps.{drops_call, drops_reached, derives_builtin, skips_attribute, falls_back, defines_rules, defines_macro}
 use Rattle.hir_collector_rules.specs.Steps.{closes_module, declares_item, declares_enum, lists_constant, lists_impl, opens_module, opens_file, drops_file}
 use Rattle.hir_collector_rules.specs.Steps.{misses_file, enters_block, reaches_imports, reaches_crate, resolves_imports, Drops, Expands, HasAttribute, IsItemOf}
@@ -843,6 +844,9 @@ module _ (tables : TablesValue) (w : Workspace) (finished : Maps) (from : Beginn
           ahead = back_same tables w finished from answer last es (asking s rests) (acts finished s rests) q q.listed refl (λ k. refl)
               (λ more g. g);
         }
+    back_rule (meets_macro i d makro x) may sees numbers read kept quiet q =
+        let r : Rule = meets_macro i d makro x in
+        record { defs = []; ahead = back_same tables w finished from answer last es (asking s r) (acts finished s r) q q.listed refl (λ k. refl) (λ more g. g) }
     back_rule (drops_call i d) may sees numbers read kept quiet q =
         let r : Rule = drops_call i d in
         record { defs = []; ahead = back_same tables w finished from answer last es (asking s r) (acts finished s r) q q.listed refl (λ k. refl) (λ more g. g) }

@@ -81,7 +81,8 @@ use Rattle.hir_collector_rules.specs.Keys.{Environment, environment}
 use Rattle.hir_collector_rules.specs.Macros.{textual_at}
 use Rattle.hir_collector_rules.specs.Start.{Beginning, krate_of}
 use Rattle.hir_collector_rules.specs.State.{Core, State, import_state}
-use Rattle.hir_collector_rules.specs.Steps.{Rule, drops_item, awaits_attribute, lists_derives, faults_derive, exports_macro, reaches_call, rests, expands_call}
+use Rattle.hir_collector_rules.specs.Steps.{Rule, drops_item, awaits_attribute, lists_derives, faults_derive, exports_macro, reaches_call, rests}
+use Rattle.hir_collector_rules.specs.Steps.{expands_call, meets_macro}
 use Rattle.hir_collector_rules.specs.Steps.{drops_call, drops_reached, derives_builtin, skips_attribute, falls_back, defines_rules, defines_macro}
 use Rattle.hir_collector_rules.specs.Steps.{closes_module, declares_item, declares_enum, lists_constant, lists_impl, opens_module, opens_file, drops_file}
 use Rattle.hir_collector_rules.specs.Steps.{misses_file, enters_block, reaches_imports, reaches_crate, resolves_imports, May, Step, Steps, acts, asking, more}
@@ -614,6 +615,7 @@ module _ (rs : List ImportDirective) where
         (tt, (tt, (tt, (tt, (none_fine site.home, fine_reporting IsFineChange _ _ expander (λ t. tt) _)))))
     fine_rule (lists_derives v at a adt paths call rest) may = (tt, (tt, (tt, tt)))
     fine_rule (exports_macro site head name d e rest) may = (tt, (tt, (tt, (tt, (none_fine site.home, (tt, (none_fine site.home, tt)))))))
+    fine_rule (meets_macro i d makro x) may = (tt, tt)
     fine_rule rests may = (tt, tt)
     fine_rule (expands_call i d makro x) may = (tt, (tt, (tt, fine_expanding IsFineChange _ (λ t helper. tt) _ _ d (error_of x.there) (λ t text. tt) _)))
     fine_rule (drops_call i d) may = (tt, tt)

@@ -1,5 +1,5 @@
 -- A crate's run asks for nothing of a block: all that it comes upon is written in trees of files and of expansions.
-use Rattle.std.specs.Prelude.{◌≡◌, ◌||◌, ℕ, List, [], ◌∷◌, ◌++◌, Bool, true, false, is_some, Option, None, Some, cond, option_map}
+use Rattle.std.specs.Prelude.{◌≡◌, ◌||◌, ℕ, List, [], ◌∷◌, ◌++◌, Bool, true, false, is_some, Option, None, Some, cond, option_map, slice_get}
 use Rattle.std.specs.List.{list_any}
 use Rattle.std.proofs.Common.{◌+◌, ◌<◌, zero, suc, Contains, ap, refl, subst, sym, ◌∙◌, arith}
 use Rattle.hir_collector_rules.specs.HirBase.ModPath.{Path}
@@ -12,6 +12,7 @@ use Rattle.hir_collector_rules.specs.HirIds.declared.edition.Edition.{Edition}
 use Rattle.hir_collector_rules.specs.HirIds.declared.macro_kind.MacroId.{MacroId}
 use Rattle.hir_collector_rules.specs.HirIds.declared.ids.ModuleId.{ModuleId}
 use Rattle.hir_collector_rules.specs.HirIds.declared.macro_kind.MacroId.TheVariants as macros
+use Rattle.hir_collector_rules.specs.HirBase.declared.resolve_mode.MacroSubNs.TheVariants.{Bang}
 use Rattle.hir_collector_rules.specs.HirBase.declared.tree_id.TreeId.{TreeId}
 use Rattle.hir_collector_rules.specs.HirPerNs.PerNs.{Item}
 use Rattle.hir_collector_rules.specs.HirPerNs.declared.imports.ImportOrExternCrate.{ImportOrExternCrate}
@@ -28,20 +29,23 @@ use Rattle.hir_collector_rules.proofs.HirDefMapRules.StaysSourced.{HoldsNowhere-
 use Rattle.hir_collector_rules.specs.HirImportRules.Rules.{acts as import_acts}
 use Rattle.hir_collector_rules.specs.HirTables.Tables.{TablesValue}
 use Rattle.hir_collector_rules.specs.Attributes.{attr_id, item_node}
-use Rattle.hir_collector_rules.specs.Calls.{by_style, called_macro, error_of, path_of_call, style_of, suited, suits}
+use Rattle.hir_collector_rules.specs.Calls.{AreReached, Grown, InnerMacro, IsGrown, asked_first, by_style, called_macro, entry_readings, error_of}
+use Rattle.hir_collector_rules.specs.Calls.{expansion_readings, grown_readings, inner_macro, inner_readings, path_of_call, style_of, suited, suits}
+use Rattle.hir_collector_rules.specs.Calls.{text_readings}
 use Rattle.hir_collector_rules.specs.Changes.{Change, lists, makes, gives_variants, begins_paths, reaches, awaits, ends, settles, changes_imports, adds_textual}
 use Rattle.hir_collector_rules.specs.Changes.{takes_textual, defines, describes, helps, lists_derive, notes, exports, uses_macros, tells, goes_on, act}
 use Rattle.hir_collector_rules.specs.ItemIds.{macro_rules_id, module_id}
 use Rattle.hir_collector_rules.specs.Keys.{Environment, dependency_keys, environment, keys_behind}
-use Rattle.hir_collector_rules.specs.ModuleFiles.{LookedAt, Tried, file_readings, tried_in}
+use Rattle.hir_collector_rules.specs.ModuleFiles.{LookedAt, Reading, Tried, file_readings, tried_in}
 use Rattle.hir_collector_rules.specs.Start.{Beginning, begin_of, block_of, holders_by, krate_of, read_by, start_of}
 use Rattle.hir_collector_rules.specs.State.{State, import_state}
-use Rattle.hir_collector_rules.specs.Steps.{Rule, drops_item, awaits_attribute, lists_derives, faults_derive, exports_macro, reaches_call, rests, expands_call}
+use Rattle.hir_collector_rules.specs.Steps.{Rule, drops_item, awaits_attribute, lists_derives, faults_derive, exports_macro, reaches_call, rests}
+use Rattle.hir_collector_rules.specs.Steps.{expands_call, meets_macro}
 use Rattle.hir_collector_rules.specs.Steps.{drops_call, drops_reached, derives_builtin, skips_attribute, falls_back, defines_rules, defines_macro}
 use Rattle.hir_collector_rules.specs.Steps.{closes_module, declares_item, declares_enum, lists_constant, lists_impl, opens_module, opens_file, drops_file}
 use Rattle.hir_collector_rules.specs.Steps.{misses_file, enters_block, reaches_imports, reaches_crate, resolves_imports, May, acts, asking, derives_from}
 use Rattle.hir_collector_rules.specs.Steps.{keys_read, reads, Step, Steps, none, more}
-use Rattle.hir_collector_rules.specs.Workspace.{Workspace, transitive_dependencies_in}
+use Rattle.hir_collector_rules.specs.Workspace.{EntryLook, Workspace, transitive_dependencies_in}
 use Rattle.hir_collector_rules.specs.declared.source_database.Key.{Key}
 use Rattle.hir_collector_rules.specs.declared.macro_directive.MacroDirective.{MacroDirective}
 use Rattle.hir_collector_rules.specs.declared.site.Site.{Site}
@@ -52,7 +56,7 @@ use Rattle.hir_collector_rules.proofs.Changes.{AllFine, all_fine, asked-Step, fi
 use Rattle.hir_collector_rules.proofs.Holds.{in_range-start}
 use Rattle.hir_collector_rules.proofs.InRange.{IsInRange, in_range-Steps}
 use Rattle.hir_collector_rules.proofs.Lists.{none_joined}
-use Rattle.hir_def_collector_laws.specs.BlockKeys.{CratesAskForNoBlock, block_of_key, block_of_macro, in_blocks}
+use Rattle.hir_def_collector_laws.specs.BlockKeys.{CratesAskForNoBlock, block_of_key, in_blocks}
 use Rattle.hir_def_collector_laws.specs.Sources.{BeginsClear}
 use Rattle.hir_def_collector_laws.proofs.Sourced.{ends_sourced, first_sourced, sourced-Step}
 use Rattle.hir_def_collector_laws.proofs.SourcedItems.{next_visits}
@@ -98,10 +102,15 @@ of_files krate edition (t ∷ ts) = go t.file (of_files krate edition ts)
     go None others = others
     go (Some f) others = (refl, others)
 
-of_text : (makro : MacroId) → on_macro in_blocks makro ≡ false → block_of_macro makro ≡ None
-of_text (macros.Macro2Id id) e = no_block id.loc.block e
-of_text (macros.MacroRulesId id) e = no_block id.loc.block e
-of_text (macros.ProcMacroId id) e = no_block id.loc.block e
+-- what is read of a macro's text is of no block, where the macro is in none
+text_blockless : (makro : MacroId) (text : Option (List ℕ)) → on_macro in_blocks makro ≡ false → Blockless (keys_read (text_readings makro text))
+text_blockless (macros.Macro2Id id) text e = (no_block id.loc.block e, tt)
+text_blockless (macros.MacroRulesId id) text e = (no_block id.loc.block e, tt)
+text_blockless (macros.ProcMacroId id) text e = tt
+
+both_read : (xs ys : List Reading) → Blockless (keys_read xs) → Blockless (keys_read ys) → Blockless (keys_read (xs ++ ys))
+both_read [] ys f g = g
+both_read (x ∷ xs) ys f g = (f.0, both_read xs ys f.1 g)
 
 -- ---- calls that wait
 
@@ -160,6 +169,41 @@ module _ (answers : PathsAnswerFromSources) (paths : PathsLeadToWhatIsThere) (fi
         go None f e = absurd (let wrong : ⊥ = cc in wrong)
         go (Some i) f e = by i f (suits d.kind i.def) e
 
+    -- the macro that a path reaches which a macro asks to have resolved first
+    inner_clear : (home : ℕ) (path : Path) (makro : MacroId) → inner_macro finished s.core.local s.core.map home path ≡ Some makro
+        → on_macro in_blocks makro ≡ false
+    inner_clear home path makro reached = go _ clear.macros reached
+      where
+        clear : HoldsOfNone in_blocks (resolution_of (overlay finished s.core.map) (by_style Bang s.core.local) (numbered s.core.map.id home) path).resolved_def
+        clear = answers in_blocks (overlay finished s.core.map) (by_style Bang s.core.local) (numbered s.core.map.id home) path
+            (HoldsNowhere-overlay in_blocks finished s.core.map nowhere b.sourced.map) b.sourced.local
+
+        go : (o : Option (Item MacroId ImportOrExternCrate)) → on_some (on_macro_item in_blocks) o ≡ false → macro_in o ≡ Some makro
+            → on_macro in_blocks makro ≡ false
+        go None f e = absurd (let wrong : ⊥ = cc in wrong)
+        go (Some i) f e =
+            let same : i.def ≡ makro = cc in
+            subst (λ (m : MacroId). on_macro in_blocks m ≡ false) same
+            (not_first (on_macro in_blocks i.def) (on_visibility in_blocks i.vis || on_some (on_import in_blocks) i.import) f)
+
+    -- what is read of those that paths reach
+    inner_blockless : (home : ℕ) (reaching : List Path) (reached : List InnerMacro) → AreReached finished s.core.local s.core.map home reaching reached
+        → Blockless (keys_read (inner_readings reached))
+    inner_blockless home [] [] h = tt
+    inner_blockless home [] (i ∷ is) h = absurd h
+    inner_blockless home (p ∷ ps) [] h = absurd h
+    inner_blockless home (p ∷ ps) (i ∷ is) h =
+        both_read (text_readings i.makro i.text) (inner_readings is) (text_blockless i.makro i.text (inner_clear home p i.makro h.0))
+        (inner_blockless home ps is h.2)
+
+    grown_blockless : (home : ℕ) (makro : MacroId) (there : EntryLook) (g : Option Grown) → IsGrown finished s.core.local s.core.map home makro there g
+        → Blockless (keys_read (grown_readings g))
+    grown_blockless home makro there None h = tt
+    grown_blockless home makro there (Some g) h = (refl, inner_blockless home (asked_first makro g.there) g.macros h.1)
+
+    call_blockless : (i : ℕ) (d : MacroDirective) → slice_get s.core.calls i ≡ Some d → d.ast_id.block ≡ None
+    call_blockless i d at = no_block d.ast_id.block (none_at on_node s.core.calls b.calls i d at)
+
     -- what a rule reads is of no block
     reads_blockless : (r : Rule) → May finished s r → Blockless (keys_read (reads s r))
     reads_blockless (declares_enum site head name found rest) may =
@@ -167,15 +211,16 @@ module _ (answers : PathsAnswerFromSources) (paths : PathsLeadToWhatIsThere) (fi
     reads_blockless (opens_file site head name search f rest) may = of_files s.core.map.id.krate s.core.map.crate_data.edition (tried_in search)
     reads_blockless (drops_file site head name search report rest) may = of_files s.core.map.id.krate s.core.map.crate_data.edition (tried_in search)
     reads_blockless (misses_file site head name search report rest) may = of_files s.core.map.id.krate s.core.map.crate_data.edition (tried_in search)
-    reads_blockless (expands_call i d makro x) may = by_macro makro (of_text makro (called_clear d makro may.called.reaches))
-      where
-        input : d.ast_id.block ≡ None
-        input = no_block d.ast_id.block (none_at on_node s.core.calls b.calls i d may.called.due.waiting.call)
-
-        by_macro : (m : MacroId) → block_of_macro m ≡ None → Blockless (keys_read (reads s (expands_call i d m x)))
-        by_macro (macros.Macro2Id id) text = (text, (input, (refl, (refl, tt))))
-        by_macro (macros.MacroRulesId id) text = (text, (input, (refl, (refl, tt))))
-        by_macro (macros.ProcMacroId id) text = (input, (refl, (refl, tt)))
+    reads_blockless (expands_call i d makro x) may =
+        both_read (text_readings makro x.text) (expansion_readings s.core.map.id.krate d x)
+        (text_blockless makro x.text (called_clear d makro may.called.reaches)) (
+          call_blockless i d may.called.due.waiting.call,
+          both_read (grown_readings x.grown) (entry_readings s.core.map.id.krate x) (grown_blockless d.site.home makro x.there x.grown may.first)
+              (refl, (refl, tt)),
+        )
+    reads_blockless (meets_macro i d makro x) may =
+        both_read (text_readings makro x.text) _ (text_blockless makro x.text (called_clear d makro may.called.reaches))
+        (call_blockless i d may.called.due.waiting.call, (refl, tt))
     reads_blockless other may = tt
 
     -- nor is a call that it lets wait
@@ -202,6 +247,7 @@ module _ (answers : PathsAnswerFromSources) (paths : PathsLeadToWhatIsThere) (fi
     brings_written (exports_macro site head name d e rest) may = (tt, (tt, (tt, (tt, (tt, (tt, (tt, tt)))))))
     brings_written (reaches_call site head path rest) may =
         (tt, (neither (is_some site.tree.block) false (next_visits in_blocks s.agenda _ rest b.sourced.visits may.next).0 refl, tt))
+    brings_written (meets_macro i d makro x) may = (tt, tt)
     brings_written rests may = (tt, tt)
     brings_written (expands_call i d makro x) may =
         (tt, (tt, (tt, fine_expanding Written _ (λ at helper. tt) _ (module_id s.core.map d.site.home) d (error_of x.there) (λ at text. tt) _)))

@@ -1,6 +1,6 @@
 -- Each diagnostic of a run speaks of an item that was visited, or of a call or an import that was come upon.
 use Rattle.std.proofs.Common.{◌≡◌, ◌∙◌, ◌<◌, ◌≤◌, ℕ, zero, suc, List, [], ◌∷◌, ◌++◌, length, slice_get, Bool, true, false, cond, Option, None, Some, inl, inr}
-use Rattle.std.proofs.Common.{refl, sym, ap, subst, arith, Contains}
+use Rattle.std.proofs.Common.{refl, sym, ap, subst, arith, drop, Contains}
 use Rattle.std.proofs.lemmas.List.Elements.{Contains-append_cases}
 use Rattle.hir_collector_rules.specs.HirIds.declared.ast_id.AstId.{AstId}
 use Rattle.hir_collector_rules.specs.HirIds.declared.ast_id.AttrId.{AttrId}
@@ -14,7 +14,7 @@ use Rattle.hir_collector_rules.specs.HirItemTree.Kinds.{item_head, item_kind}
 use Rattle.hir_collector_rules.specs.HirTables.Tables.{TablesValue}
 use Rattle.hir_collector_rules.specs.HirDefMapRules.Diagnostics.{call_node, diagnostic_view, node_of as node_told}
 use Rattle.hir_collector_rules.specs.HirDefMapRules.Overlay.{Maps}
-use Rattle.hir_collector_rules.specs.HirDefMapRules.State.{Map, numbered}
+use Rattle.hir_collector_rules.specs.HirDefMapRules.State.{Local, Map, numbered}
 use Rattle.hir_collector_rules.specs.HirMapParts.declared.diagnostics.DefDiagnostic.{DefDiagnostic}
 use Rattle.hir_collector_rules.specs.HirMapParts.declared.diagnostics.DefDiagnosticKind.TheVariants as kinds
 use Rattle.hir_collector_rules.specs.HirImportRules.Directives.{TakenValue, is_untaken}
@@ -22,6 +22,7 @@ use Rattle.hir_collector_rules.specs.HirImportRules.Rules.{acts as import_acts}
 use Rattle.hir_collector_rules.specs.HirImportRules.declared.directive.ImportDirective.{ImportDirective}
 use Rattle.hir_collector_rules.specs.HirImportRules.declared.directive.ImportSource.{ImportSource}
 use Rattle.hir_collector_rules.specs.HirImportRules.declared.directive.ImportSource.TheVariants as sources
+use Rattle.hir_collector_rules.specs.declared.macro_directive.EagerMacro.{EagerMacro}
 use Rattle.hir_collector_rules.specs.declared.macro_directive.Fate.{Fate}
 use Rattle.hir_collector_rules.specs.declared.macro_directive.MacroDirective.{MacroDirective}
 use Rattle.hir_collector_rules.specs.declared.macro_directive.MacroDirectiveKind.{MacroDirectiveKind}
@@ -37,8 +38,9 @@ use Rattle.hir_collector_rules.specs.Keys.{environment}
 use Rattle.hir_collector_rules.specs.Reports.{begins_with, call_report, crates_among, failed_call, leftover_diagnostics, report_by, reports_of}
 use Rattle.hir_collector_rules.specs.Reports.{unimplemented_macro, unresolved_among, unresolved_calls}
 use Rattle.hir_collector_rules.specs.Start.{Beginning, begin_of, holders_by, krate_of, read_by}
-use Rattle.hir_collector_rules.specs.State.{State, Task, Visit, visits, import_state}
-use Rattle.hir_collector_rules.specs.Steps.{Rule, drops_item, awaits_attribute, lists_derives, faults_derive, exports_macro, reaches_call, rests, expands_call}
+use Rattle.hir_collector_rules.specs.State.{State, Task, Visit, eager_among, eager_at, visits, import_state}
+use Rattle.hir_collector_rules.specs.Steps.{Rule, drops_item, awaits_attribute, lists_derives, faults_derive, exports_macro, reaches_call, rests}
+use Rattle.hir_collector_rules.specs.Steps.{expands_call, meets_macro}
 use Rattle.hir_collector_rules.specs.Steps.{drops_call, drops_reached, derives_builtin, skips_attribute, falls_back, defines_rules, defines_macro}
 use Rattle.hir_collector_rules.specs.Steps.{closes_module, declares_item, declares_enum, lists_constant, lists_impl, opens_module, opens_file, drops_file}
 use Rattle.hir_collector_rules.specs.Steps.{misses_file, enters_block, reaches_imports, reaches_crate, resolves_imports, IsFaulty, May, Steps, no_paths}
@@ -160,7 +162,7 @@ module _ (tables : TablesValue) (w : Workspace) (from : Beginning) (answer : Col
         }
 
     -- an attribute that is given up
-    given_up_told : (d : MacroDirective) (i : ℕ) → slice_get s.core.calls i ≡ Some d → IsTold (call_report s.core.map.id d)
+    given_up_told : (d : MacroDirective) (i : ℕ) → slice_get s.core.calls i ≡ Some d → IsTold (call_report finished s.core.local s.core.map d (eager_at s.core i))
     given_up_told d i at =
         let home : d.site.home < length s.core.map.modules = call_below (length s.core.map.modules) s.core.calls i d in_range.calls at in
         let item : IsOfItem tables w answer d.ast_id = call_item d (call_among tables w from answer s.core.calls d written.calls (standing s.core.calls i d at))
@@ -215,6 +217,7 @@ module _ (tables : TablesValue) (w : Workspace) (from : Beginning) (answer : Col
     fine_rule (lists_derives v at a adt paths call rest) may = (tt, (tt, (tt, tt)))
     fine_rule (faults_derive v at report rest) may = (tt, (fault_told v rest may.has.on.next may.attribute report may.faulty, tt))
     fine_rule (exports_macro site head name d e rest) may = (tt, (tt, (tt, (tt, (tt, (tt, (tt, tt)))))))
+    fine_rule (meets_macro i d makro x) may = (tt, tt)
     fine_rule rests may = (tt, tt)
     fine_rule (expands_call i d makro x) may = (
       tt,
@@ -293,23 +296,27 @@ module _ (tables : TablesValue) (w : Workspace) (from : Beginning) (answer : Col
   AreCallsThere ds = (d : MacroDirective) → Contains ds d → IsCall tables w answer d × (d.site.home < length answer.map.modules)
 
   -- a call that waits
-  told_call : (d : MacroDirective) → IsCall tables w answer d → d.site.home < length answer.map.modules → IsTold (call_report answer.map.id d)
-  told_call d c there = record {
-    number = d.site.home;
-    there = there;
-    module_is = refl;
-    of_item = subst (λ (node : AstId). IsOfItem tables w answer node) (sym (call_node_is d)) (call_item d c);
-  }
+  module _ (finished : Maps) (local : Local) (m : Map) (same : m.id ≡ answer.map.id) where
+    told_call : (d : MacroDirective) (seen : List EagerMacro) → IsCall tables w answer d → d.site.home < length answer.map.modules
+        → IsTold (call_report finished local m d seen)
+    told_call d seen c there = record {
+      number = d.site.home;
+      there = there;
+      module_is = ap (λ (id : MapId). numbered id d.site.home) same;
+      of_item = subst (λ (node : AstId). IsOfItem tables w answer node) (sym (call_node_is d)) (call_item d c);
+    }
 
-  told_calls : (ds : List MacroDirective) (fs : List Fate) → AreCallsThere ds → AllTold (unresolved_calls answer.map.id ds fs)
-  told_calls [] fs f = none_told
-  told_calls (d ∷ ds) [] f = none_told
-  told_calls (d ∷ ds) (fates.Waits ∷ fs) f =
-      let first = f d (at_first d ds) in
-      told_more (call_report answer.map.id d ∷ []) (unresolved_calls answer.map.id ds fs) (one_told (call_report answer.map.id d) (told_call d first.0 first.1))
-      (told_calls ds fs (λ e h. f e (later d ds e h)))
-  told_calls (d ∷ ds) (fates.Handled ∷ fs) f = told_calls ds fs (λ e h. f e (later d ds e h))
-  told_calls (d ∷ ds) (fates.GivenUp ∷ fs) f = told_calls ds fs (λ e h. f e (later d ds e h))
+    told_calls : (ds : List MacroDirective) (fs : List Fate) (es : List (List EagerMacro)) → AreCallsThere ds
+        → AllTold (unresolved_calls finished local m ds fs es)
+    told_calls [] fs es f = none_told
+    told_calls (d ∷ ds) [] es f = none_told
+    told_calls (d ∷ ds) (fates.Waits ∷ fs) es f =
+        let first = f d (at_first d ds) in
+        let report : DefDiagnostic = call_report finished local m d (eager_among es 0) in
+        told_more (report ∷ []) (unresolved_calls finished local m ds fs (drop 1 es)) (one_told report (told_call d (eager_among es 0) first.0 first.1))
+        (told_calls ds fs (drop 1 es) (λ e h. f e (later d ds e h)))
+    told_calls (d ∷ ds) (fates.Handled ∷ fs) es f = told_calls ds fs (drop 1 es) (λ e h. f e (later d ds e h))
+    told_calls (d ∷ ds) (fates.GivenUp ∷ fs) es f = told_calls ds fs (drop 1 es) (λ e h. f e (later d ds e h))
 
   abbrev AreImportsThere : List ImportDirective → Type 0
   AreImportsThere rs = (r : ImportDirective) → Contains rs r → IsImport tables w from answer r × (r.home < length answer.map.modules)
@@ -368,14 +375,18 @@ module _ (tables : TablesValue) (w : Workspace) (finished : Maps) (from : Beginn
       subst (λ (id : MapId). AllTold tables w from answer (reports_of id (crates_among [] unresolved) unresolved)) (sym last_id)
       (told_reports tables w from answer (crates_among [] unresolved) unresolved imports_there)
 
-  calls_told : AllTold tables w from answer (unresolved_calls e.last.core.map.id e.last.core.calls e.last.core.fates)
+  abbrev left_over : List DefDiagnostic
+  left_over =
+      unresolved_calls (read_by w finished from.start) e.last.core.local e.last.core.map e.last.core.calls e.last.core.fates e.last.core.eager
+
+  calls_told : AllTold tables w from answer left_over
   calls_told =
-      subst (λ (id : MapId). AllTold tables w from answer (unresolved_calls id e.last.core.calls e.last.core.fates)) (sym last_id)
-      (told_calls tables w from answer e.last.core.calls e.last.core.fates (λ d h. call_there tables w finished from answer e d h))
+      told_calls tables w from answer (read_by w finished from.start) e.last.core.local e.last.core.map last_id e.last.core.calls e.last.core.fates
+      e.last.core.eager (λ d h. call_there tables w finished from answer e d h)
 
   all_told : AllTold tables w from answer answer.map.diagnostics
   all_told =
-      let calls : List DefDiagnostic = unresolved_calls e.last.core.map.id e.last.core.calls e.last.core.fates in
+      let calls : List DefDiagnostic = left_over in
       let imports : List DefDiagnostic = leftover_diagnostics e.last.core.map e.last.core.reached e.last.core.taken in
       subst (λ (ds : List DefDiagnostic). AllTold tables w from answer ds)
       (sym (ap (λ (m : Map). m.diagnostics) e.map_is ∙ ap (λ (ds : List DefDiagnostic). ds ++ (calls ++ imports)) (same_diagnostics e.last.core)))

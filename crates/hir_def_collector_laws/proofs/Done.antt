@@ -18,7 +18,8 @@ use Rattle.hir_collector_rules.specs.Changes.{with_derived}
 use Rattle.hir_collector_rules.specs.Invocations.{impl_noted}
 use Rattle.hir_collector_rules.specs.Keys.{Environment}
 use Rattle.hir_collector_rules.specs.State.{Core, State, all_wait, import_state}
-use Rattle.hir_collector_rules.specs.Steps.{Rule, drops_item, awaits_attribute, lists_derives, faults_derive, exports_macro, reaches_call, rests, expands_call}
+use Rattle.hir_collector_rules.specs.Steps.{Rule, drops_item, awaits_attribute, lists_derives, faults_derive, exports_macro, reaches_call, rests}
+use Rattle.hir_collector_rules.specs.Steps.{expands_call, meets_macro}
 use Rattle.hir_collector_rules.specs.Steps.{drops_call, drops_reached, derives_builtin, skips_attribute, falls_back, defines_rules, defines_macro}
 use Rattle.hir_collector_rules.specs.Steps.{closes_module, declares_item, declares_enum, lists_constant, lists_impl, opens_module, opens_file, drops_file}
 use Rattle.hir_collector_rules.specs.Steps.{misses_file, enters_block, reaches_imports, reaches_crate, resolves_imports, DerivesBuiltin, May, Step, acts}
@@ -171,6 +172,7 @@ module _ (last : Core) (m : Map) where
     done_rule (lists_derives v at a adt paths call rest) defs may derived = (tt, (tt, (tt, tt)))
     done_rule (exports_macro site head name c e rest) defs may derived = (tt, (tt, (tt, (tt, (tt, (tt, (tt, tt)))))))
     done_rule rests defs may derived = (tt, tt)
+    done_rule (meets_macro i call makro x) defs may derived = (tt, tt)
     done_rule (expands_call i call makro x) defs may derived = (
       λ same d is. among _ (at_first _ es) (done_here i call d may.called.due.waiting.call is),
       (tt, (tt, fine_expanding (Done (expands_call i call makro x) defs) _ (λ t helper. tt) _ _ call (error_of x.there) (λ t text. tt) _)),
@@ -201,6 +203,7 @@ module _ (last : Core) (m : Map) where
     went_rule (lists_derives v at a adt paths call rest) defs may = (tt, (tt, (tt, tt)))
     went_rule (exports_macro site head name c e rest) defs may = (tt, (tt, (tt, (tt, (tt, (tt, (tt, tt)))))))
     went_rule rests defs may = (tt, tt)
+    went_rule (meets_macro i call makro x) defs may = (tt, tt)
     went_rule (expands_call i call makro x) defs may = (
       λ same. absurd (let no : ⊥ = cc in no),
       (tt, (tt, fine_expanding (Went (expands_call i call makro x) defs) _ (λ t helper. tt) _ _ call (error_of x.there) (λ t text. tt) _)),

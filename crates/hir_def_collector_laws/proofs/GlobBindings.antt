@@ -72,7 +72,8 @@ use Rattle.hir_collector_rules.specs.ItemIds.{module_id}
 use Rattle.hir_collector_rules.specs.Keys.{Environment}
 use Rattle.hir_collector_rules.specs.Start.{Beginning, read_by}
 use Rattle.hir_collector_rules.specs.State.{Core, State, import_state}
-use Rattle.hir_collector_rules.specs.Steps.{Rule, drops_item, awaits_attribute, lists_derives, faults_derive, exports_macro, reaches_call, rests, expands_call}
+use Rattle.hir_collector_rules.specs.Steps.{Rule, drops_item, awaits_attribute, lists_derives, faults_derive, exports_macro, reaches_call, rests}
+use Rattle.hir_collector_rules.specs.Steps.{expands_call, meets_macro}
 use Rattle.hir_collector_rules.specs.Steps.{drops_call, drops_reached, derives_builtin, skips_attribute, falls_back, defines_rules, defines_macro}
 use Rattle.hir_collector_rules.specs.Steps.{closes_module, declares_item, declares_enum, lists_constant, lists_impl, opens_module, opens_file, drops_file}
 use Rattle.hir_collector_rules.specs.Steps.{misses_file, enters_block, reaches_imports, reaches_crate, resolves_imports, May, Steps, acts, asking, more, none}
@@ -382,6 +383,7 @@ module _ (finished : Maps) (s : State) (f : IsNotedState s) where
   rule_noted (faults_derive v at report rest) may = by_changes (faults_derive v at report rest) (tt, (tt, tt))
   rule_noted (exports_macro site head name d e rest) may = by_changes (exports_macro site head name d e rest) (tt, (tt, (tt, (tt, (refl, (tt, (refl, tt)))))))
   rule_noted (reaches_call site head path rest) may = by_changes (reaches_call site head path rest) (tt, (tt, tt))
+  rule_noted (meets_macro i d makro x) may = by_changes (meets_macro i d makro x) (tt, tt)
   rule_noted rests may = by_changes rests (tt, tt)
   rule_noted (expands_call i d makro x) may =
       by_changes (expands_call i d makro x) (tt, (tt, (tt, fine_expanding IsFine _ (λ t helper. tt) _ _ d (error_of x.there) (λ t text. tt) _)))

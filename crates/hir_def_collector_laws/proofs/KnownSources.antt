@@ -1,7 +1,9 @@
 -- A run reaches only macros that are written in sources which have numbers, where the finished maps bind none but such.
-use Rattle.std.specs.Prelude.{◌≡◌, List, Bool, true, false, is_some, not, Option, Some, None, cond, option_map}
+use Rattle.std.specs.Prelude.{◌≡◌, ℕ, List, Bool, true, false, is_some, not, Option, Some, None, cond, option_map}
 use Rattle.std.proofs.Common.{ap, refl, subst, arith}
 use mathlib.Core.Bool.{true≢false}
+use Rattle.hir_collector_rules.specs.HirBase.ModPath.{Path}
+use Rattle.hir_collector_rules.specs.HirBase.declared.resolve_mode.MacroSubNs.TheVariants.{Bang}
 use Rattle.hir_collector_rules.specs.HirIds.declared.macro_kind.MacroId.{MacroId}
 use Rattle.hir_collector_rules.specs.HirIds.declared.ids.ModuleId.{ModuleId}
 use Rattle.hir_collector_rules.specs.HirIds.declared.macro_kind.MacroId.TheVariants as macros
@@ -20,12 +22,12 @@ use Rattle.hir_collector_rules.proofs.HirDefMapRules.StaysSourced.{HoldsNowhere-
 use Rattle.hir_collector_rules.specs.declared.macro_directive.MacroDirective.{MacroDirective}
 use Rattle.hir_collector_rules.specs.declared.macro_directive.MacroDirectiveKind.{MacroDirectiveKind}
 use Rattle.hir_collector_rules.specs.declared.source_database.Key.TheVariants as keys
-use Rattle.hir_collector_rules.specs.Calls.{by_style, called_macro, macro_among, path_of_call, style_of, suited, suits}
+use Rattle.hir_collector_rules.specs.Calls.{by_style, called_macro, inner_macro, macro_among, path_of_call, style_of, suited, suits}
 use Rattle.hir_collector_rules.specs.Keys.{IsMeant, environment}
 use Rattle.hir_collector_rules.specs.Start.{Beginning, begin_of, holders_by, read_by, root_key, tree_key}
 use Rattle.hir_collector_rules.specs.State.{State}
 use Rattle.hir_collector_rules.specs.Steps.{Steps}
-use Rattle.hir_collector_rules.specs.UnknownSources.{of_file, of_macro}
+use Rattle.hir_collector_rules.specs.UnknownSources.{IsUnknown, of_file, of_inner, of_itself, of_macro}
 use Rattle.hir_collector_rules.specs.Workspace.{Workspace}
 use Rattle.hir_collector_rules.proofs.Asks.{still_asked}
 use Rattle.hir_collector_rules.proofs.Holds.{in_range-start}
@@ -70,6 +72,25 @@ module _ (t : SourceTest) where
       go None e f = absurd cc
       go (Some i) e f = chosen i (suits kind i.def) e f
 
+  -- nor of a macro that a path answers
+  among_clear : (items : PerNs) (makro : MacroId) → macro_among items ≡ Some makro → HoldsOfNone t items → on_macro t makro ≡ false
+  among_clear items makro e none = go items.macros e none.macros
+    where
+      go : (o : Option (Item MacroId ImportOrExternCrate)) → option_map (λ (i : Item MacroId ImportOrExternCrate). i.def) o ≡ Some makro
+          → on_some (on_macro_item t) o ≡ false
+          → on_macro t makro ≡ false
+      go None e f = absurd cc
+      go (Some i) e f = let same : i.def ≡ makro = cc in subst (λ (x : MacroId). on_macro t x ≡ false) same (not_first (on_macro t i.def) _ f)
+
+  -- nor of one that a path reaches which a macro asks to have resolved first
+  inner_clear : PathsAnswerFromSources → (read : Maps) → HoldsNowhere t read → (s : State) → IsSourced t s → (home : ℕ) (path : Path) (makro : MacroId)
+      → inner_macro read s.core.local s.core.map home path ≡ Some makro → on_macro t makro ≡ false
+  inner_clear answers read nowhere s sourced home path makro e =
+      let items : PerNs = (resolution_of (overlay read s.core.map) (by_style Bang s.core.local) (numbered s.core.map.id home) path).resolved_def in
+      among_clear items makro e
+      (answers t (overlay read s.core.map) (by_style Bang s.core.local) (numbered s.core.map.id home) path
+      (HoldsNowhere-overlay t read s.core.map nowhere sourced.map) sourced.local)
+
   -- nor of one that what waits reaches
   called_clear : PathsAnswerFromSources → (read : Maps) → HoldsNowhere t read → (s : State) → IsSourced t s → (d : MacroDirective) (makro : MacroId)
       → called_macro read s.core.local s.core.map d ≡ Some makro → on_macro t makro ≡ false
@@ -102,5 +123,12 @@ meets_no_unknown_source answers paths tables w finished from whole stands clear 
     let at : State = leads.at in
     let asked : AreClear t at = λ key h. ap not (passed_keys_have_meaning tables w finished from at meant leads.steps (keys.Tree key) h) in
     let sourced : IsSourced t at = passed_sourced t answers paths tables w finished from at whole stands clear nowhere leads.steps asked (λ m there. refl) in
-    leads.reaches.unknown (meant_of tables leads.reaches.makro (called_clear t answers read nowhere at sourced leads.reaches.call leads.reaches.makro
-    leads.reaches.called.reaches))
+    go at sourced leads.reaches.call leads.reaches.makro leads.reaches.called.reaches leads.reaches.unknown
+  where
+    go : (at : State) → IsSourced (unnumbered tables) at → (d : MacroDirective) (makro : MacroId)
+        → called_macro (read_by w finished from.start) at.core.local at.core.map d ≡ Some makro
+        → IsUnknown tables (read_by w finished from.start) at d.site.home makro → ⊥
+    go at sourced d makro reaches (of_itself unknown) =
+        unknown (meant_of tables makro (called_clear (unnumbered tables) answers (read_by w finished from.start) nowhere at sourced d makro reaches))
+    go at sourced d makro reaches (of_inner path inner there unknown) =
+        unknown (meant_of tables inner (inner_clear (unnumbered tables) answers (read_by w finished from.start) nowhere at sourced d.site.home path inner there))

@@ -24,7 +24,8 @@ use Rattle.hir_collector_rules.specs.HirImportRules.Changes.{Change as ImportCha
 use Rattle.hir_collector_rules.specs.declared.exported.ExportedFunction.{ExportedFunction}
 use Rattle.hir_collector_rules.specs.declared.macro_directive.MacroDirective.{MacroDirective}
 use Rattle.hir_collector_rules.specs.Causes.{declarations_of}
-use Rattle.hir_collector_rules.specs.Changes.{Change, lists, makes, gives_variants, begins_paths, reaches, awaits, ends, settles, changes_imports, adds_textual}
+use Rattle.hir_collector_rules.specs.Changes.{Change, lists, makes, gives_variants, begins_paths, reaches, awaits, ends, settles, meets_eager}
+use Rattle.hir_collector_rules.specs.Changes.{changes_imports, adds_textual}
 use Rattle.hir_collector_rules.specs.Changes.{takes_textual, defines, describes, helps, lists_derive, notes, exports, uses_macros, tells, goes_on, act, perform}
 use Rattle.hir_collector_rules.specs.Changes.{with_builtin_derive}
 use Rattle.hir_collector_rules.specs.Invocations.{with_invocation}
@@ -315,6 +316,7 @@ Stays-act s (begins_paths r) = Stays-same s.core.map
 Stays-act s (reaches rs) = Stays-same s.core.map
 Stays-act s (awaits calls) = Stays-same s.core.map
 Stays-act s (ends i fate) = Stays-same s.core.map
+Stays-act s (meets_eager i seen) = Stays-same s.core.map
 Stays-act s settles = Stays-same s.core.map
 Stays-act s (changes_imports c) =
     subst (λ (m : Map). Stays s.core.map m) (sym (map_after (import_state s) c)) (Stays-edited s.core.map (edit_of (import_state s) c))

@@ -279,7 +279,7 @@ modules_list_their_items tables w finished from answer e =
     (back_Steps tables w seen from answer e.last.core (answer_here tables w finished from answer e)
     (in_range-start tables w seen (holders_by finished from.start) from)
     (first_written tables w finished from answer e) (answer_asked tables w finished from answer e) e.derived
-    (comes_end tables w seen from answer e.last.core e.last (leftover_reports e.last.core) e.map_is e.visited refl))
+    (comes_end tables w seen from answer e.last.core e.last (leftover_reports seen e.last.core) e.map_is e.visited refl))
 
 pub modules_list_their_items_alone : ModulesListTheirItemsAlone
 modules_list_their_items_alone tables w finished from answer e no_call number low =

@@ -26,7 +26,8 @@ use Rattle.hir_collector_rules.specs.Changes.{takes_textual, defines, describes,
 use Rattle.hir_collector_rules.specs.Keys.{Environment}
 use Rattle.hir_collector_rules.specs.Macros.{is_macro_use}
 use Rattle.hir_collector_rules.specs.State.{State, Task, Visit, visits, closes, import_state, visits_over}
-use Rattle.hir_collector_rules.specs.Steps.{Rule, drops_item, awaits_attribute, lists_derives, faults_derive, exports_macro, reaches_call, rests, expands_call}
+use Rattle.hir_collector_rules.specs.Steps.{Rule, drops_item, awaits_attribute, lists_derives, faults_derive, exports_macro, reaches_call, rests}
+use Rattle.hir_collector_rules.specs.Steps.{expands_call, meets_macro}
 use Rattle.hir_collector_rules.specs.Steps.{drops_call, drops_reached, derives_builtin, skips_attribute, falls_back, defines_rules, defines_macro}
 use Rattle.hir_collector_rules.specs.Steps.{closes_module, closing, declares_item, declares_enum, lists_constant, lists_impl, opens_module, opens_file}
 use Rattle.hir_collector_rules.specs.Steps.{drops_file, misses_file, enters_block, reaches_imports, reaches_crate, resolves_imports, HasAttribute, May, Step}
@@ -204,6 +205,7 @@ module _ (tools : List (List ℕ)) (k : ℕ) where
         let no : ⊥ = cc in
         no in
         (left _ rest may.next, ((apart, tt), tt))
+    quiet_rule (meets_macro i d makro x) may = (tt, tt)
     quiet_rule rests may = (tt, tt)
     quiet_rule (expands_call i d makro x) may =
         let apart : d.site.home ≢ k = call_apart k s.core.calls i d p.calls may.called.due.waiting.call in (

@@ -110,9 +110,11 @@ use Rattle.hir_def_collector_laws.specs.Sources.{BeginsClear, IsClearOf}
 use Rattle.hir_collector_rules.specs.Start.{Beginning, begin_of, holders_by, is_declared, krate_of, origin_of, own_prelude, read_by, root_key, root_map}
 use Rattle.hir_collector_rules.specs.Start.{root_site, root_tree, start_data, start_local, start_of, tree_key}
 use Rattle.hir_collector_rules.specs.State.{State, Task, Visit, visits, import_state, visits_over, behind}
-use Rattle.hir_collector_rules.specs.Changes.{Change, lists, makes, gives_variants, begins_paths, reaches, awaits, ends, settles, changes_imports, adds_textual}
+use Rattle.hir_collector_rules.specs.Changes.{Change, lists, makes, gives_variants, begins_paths, reaches, awaits, ends, settles, meets_eager}
+use Rattle.hir_collector_rules.specs.Changes.{changes_imports, adds_textual}
 use Rattle.hir_collector_rules.specs.Changes.{takes_textual, defines, describes, helps, lists_derive, notes, exports, uses_macros, tells, goes_on, act, on_map}
-use Rattle.hir_collector_rules.specs.Steps.{Rule, drops_item, awaits_attribute, lists_derives, faults_derive, exports_macro, reaches_call, rests, expands_call}
+use Rattle.hir_collector_rules.specs.Steps.{Rule, drops_item, awaits_attribute, lists_derives, faults_derive, exports_macro, reaches_call, rests}
+use Rattle.hir_collector_rules.specs.Steps.{expands_call, meets_macro}
 use Rattle.hir_collector_rules.specs.Steps.{drops_call, drops_reached, derives_builtin, skips_attribute, falls_back, defines_rules, defines_macro}
 use Rattle.hir_collector_rules.specs.Steps.{closes_module, visits_in_file, declares_item, declares_enum, lists_constant, lists_impl, opens_module, opens_file}
 use Rattle.hir_collector_rules.specs.Steps.{drops_file, misses_file, enters_block, reaches_imports, reaches_crate, resolves_imports, May, behind, derives_from}
@@ -137,17 +139,11 @@ use Rattle.hir_def_collector_laws.proofs.SourcedItems.{kept_of_kind, answer_of_s
 use Rattle.hir_def_collector_laws.proofs.SourcedEdits.{EditIsClear, EditsAreClear, IsBoundClear, IsSeenClear, entry_clear, greater_clear, items_clear}
 use Rattle.hir_def_collector_laws.proofs.SourcedEdits.{key_clear, on_edge, own_clear, recorded_clear, shown_stands, sourced-edited, variants_clear}
 use Rattle.hir_def_collector_laws.proofs.SourcedMacros.{beside_clear, brought_macros_clear, textual_changed, textual_clear, textual_more, used_clear}
+use Rattle.hir_def_collector_laws.proofs.Found.{expansion_read}
 use Rattle.hir_def_collector_laws.proofs.Whole.{begins, steps_keep}
 use Rattle.hir_def_collector_laws.proofs.WholeChanges.{NamesWhatIsThere}
 use Rattle.hir_def_collector_laws.proofs.SourcedEnded.{HoldsNowhereIn-derived, HoldsNowhereIn-ended, HoldsNowhereIn-noted, stays_ended}
 use Rattle.hir_def_collector_laws.proofs.SourcedState.{on_call, on_site, on_reached, IsSourced, AreClear, ShowsThere, stays_there}
-
--- a call that reaches a macro asks for what it expands to
-expansion_read : (own : Crate) (d : MacroDirective) (makro : MacroId) (x : Expanding)
-    → Contains (keys_read (text_readings makro x.text ++ expansion_readings own d x)) (keys.Tree (call_key own x.id))
-expansion_read own d (macros.Macro2Id id) x = (3, omega arith, refl)
-expansion_read own d (macros.MacroRulesId id) x = (3, omega arith, refl)
-expansion_read own d (macros.ProcMacroId id) x = (2, omega arith, refl)
 
 module _ (t : SourceTest) where
   -- ---- changes
@@ -261,6 +257,8 @@ module _ (t : SourceTest) where
         edges = f.edges;
       }
   sourced-act s (ends i fate) f fine = record { map = f.map; local = f.local; visits = f.visits; reached = f.reached; calls = f.calls; edges = f.edges }
+  sourced-act s (meets_eager i seen) f fine =
+      record { map = f.map; local = f.local; visits = f.visits; reached = f.reached; calls = f.calls; edges = f.edges }
   sourced-act s settles f fine = record { map = f.map; local = f.local; visits = f.visits; reached = f.reached; calls = f.calls; edges = f.edges }
   sourced-act s (changes_imports c) f fine =
       let i : ImportState = import_state s in
@@ -725,6 +723,7 @@ module _ (t : SourceTest) where
           )
       brings_none (reaches_call site head path rest) may read =
           (left _ rest may.next, (neither (t.holder site.tree.file site.tree.block) false (file _ rest may.next) refl, tt))
+      brings_none (meets_macro i d makro x) may read = (tt, tt)
       brings_none rests may read = (tt, tt)
       brings_none (expands_call i d makro x) may read =
           let own : t.holder (Macro x.id) None ≡ false = read (call_key s.core.map.id.krate x.id) (expansion_read s.core.map.id.krate d makro x) in (
@@ -858,7 +857,7 @@ module _ (t : SourceTest) where
       let first : IsSourced t begun = first_sourced (read_by w all from.start) (subst (HoldsNowhere t) (sym same) clear.read) tables w holders from
       (subst (λ (x : Maps). BeginsClear t x from.start from.tree) (sym same) begun_clear) root in
       let m : Map = ended e.last.core in
-      let reports : List DefDiagnostic = m.diagnostics ++ leftover_reports e.last.core in
+      let reports : List DefDiagnostic = m.diagnostics ++ leftover_reports (read_by w all from.start) e.last.core in
       let reported : Map = record m { diagnostics = reports } in
       let above : ShowsThere t finished reported = subst (λ (x : Map). ShowsThere t finished x) e.map_is clear.shown in
       let grows : Grows m reported = let same_map : Grows m m = Grows-same m

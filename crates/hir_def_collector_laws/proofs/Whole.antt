@@ -115,7 +115,8 @@ use Rattle.hir_collector_rules.specs.Moves.{begun}
 use Rattle.hir_collector_rules.specs.Preludes.{by_prelude, extern_prelude, joins, module_by, module_named, module_of, prelude_of, prelude_path, with_dependency}
 use Rattle.hir_collector_rules.specs.Start.{Beginning, begin_of, holder_of, holders_by, id_of, krate_of, origin_of, own_prelude, read_by, root_map, root_tree}
 use Rattle.hir_collector_rules.specs.Start.{start_data, start_local, start_of, root_visibility}
-use Rattle.hir_collector_rules.specs.Steps.{Rule, drops_item, awaits_attribute, lists_derives, faults_derive, exports_macro, reaches_call, rests, expands_call}
+use Rattle.hir_collector_rules.specs.Steps.{Rule, drops_item, awaits_attribute, lists_derives, faults_derive, exports_macro, reaches_call, rests}
+use Rattle.hir_collector_rules.specs.Steps.{expands_call, meets_macro}
 use Rattle.hir_collector_rules.specs.Steps.{drops_call, drops_reached, derives_builtin, skips_attribute, falls_back, defines_rules, defines_macro}
 use Rattle.hir_collector_rules.specs.Steps.{closes_module, declares_item, declares_enum, lists_constant, lists_impl, opens_module, opens_file, drops_file}
 use Rattle.hir_collector_rules.specs.Steps.{misses_file, enters_block, reaches_imports, reaches_crate, resolves_imports, May, acts, asking, macro_data_of}
@@ -601,6 +602,7 @@ module _ (paths : PathsLeadToWhatIsThere) (finished : Maps) (whole : AreWellForm
         let there = exporting_there (visit site (leaf head (function name))) d (function_id here site head.id) (proc_macro_id here site head.id e.style) e.what
         (low_next _ rest may.here.next) may.declares in
         (tt, (tt, (tt, (tt, ((there, tt), (tt, ((public_macro _ _, tt), tt)))))))
+    brings_what_is_there (meets_macro i d makro x) may = (tt, tt)
     brings_what_is_there rests may = (tt, tt)
     brings_what_is_there (expands_call i d makro x) may =
         (tt, (tt, (tt, fine_expanding (BringsWhatIsThere finished) _ (λ t helper. tt) _ (module_id here d.site.home) d (error_of x.there) (λ t text. tt) _)))
@@ -804,7 +806,7 @@ module _ (paths : PathsLeadToWhatIsThere) (finished : Maps) (whole : AreWellForm
       let end : NamesWhatIsThere finished e.last = steps_keep paths finished whole env (begin_of tables w all from) e.last
       (in_range-start tables w (read_by w all from.start) (holders_by all from.start) from) first derived in
       let m : Map = ended e.last.core in
-      let reports : List DefDiagnostic = m.diagnostics ++ leftover_reports e.last.core in
+      let reports : List DefDiagnostic = m.diagnostics ++ leftover_reports (read_by w all from.start) e.last.core in
       let reported : Map = record m { diagnostics = reports } in
       let begins_ended : HasNoDanglingExtern (overlay finished m) e.last.core.local =
       HasNoDanglingExtern-more (overlay finished e.last.core.map) (overlay finished m) (Extends-ended finished e.last.core) e.last.core.local end.begins in

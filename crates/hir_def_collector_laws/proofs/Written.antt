@@ -51,7 +51,8 @@ use Rattle.hir_collector_rules.specs.declared.macro_directive.MacroDirectiveKind
 use Rattle.hir_collector_rules.specs.declared.source_database.Key.TheVariants as keys
 use Rattle.hir_collector_rules.specs.Attributes.{adt_by, adt_of, attr_id, is_always_passed, is_derive, item_node, paths_in}
 use Rattle.hir_collector_rules.specs.Calls.{Expanding, call_key, call_site, call_tree, error_of, expansion_readings, item_in, item_kept, text_readings}
-use Rattle.hir_collector_rules.specs.Changes.{Change, lists, makes, gives_variants, begins_paths, reaches, awaits, ends, settles, changes_imports, adds_textual}
+use Rattle.hir_collector_rules.specs.Changes.{Change, lists, makes, gives_variants, begins_paths, reaches, awaits, ends, settles, meets_eager}
+use Rattle.hir_collector_rules.specs.Changes.{changes_imports, adds_textual}
 use Rattle.hir_collector_rules.specs.Changes.{takes_textual, defines, describes, helps, lists_derive, notes, exports, uses_macros, tells, goes_on, act}
 use Rattle.hir_collector_rules.specs.Derivation.{CollectedValue}
 use Rattle.hir_collector_rules.specs.Imports.{crate_import, crate_named, reached_import}
@@ -60,7 +61,8 @@ use Rattle.hir_collector_rules.specs.Macros.{is_macro_use}
 use Rattle.hir_collector_rules.specs.ModuleFiles.{ModuleFile, Search, file_key, file_tree}
 use Rattle.hir_collector_rules.specs.Start.{Beginning, is_declared, krate_of, root_key, root_site, root_tree, start_of, tree_visits}
 use Rattle.hir_collector_rules.specs.State.{State, Task, Visit, visits, closes, import_state, visits_over}
-use Rattle.hir_collector_rules.specs.Steps.{Rule, drops_item, awaits_attribute, lists_derives, faults_derive, exports_macro, reaches_call, rests, expands_call}
+use Rattle.hir_collector_rules.specs.Steps.{Rule, drops_item, awaits_attribute, lists_derives, faults_derive, exports_macro, reaches_call, rests}
+use Rattle.hir_collector_rules.specs.Steps.{expands_call, meets_macro}
 use Rattle.hir_collector_rules.specs.Steps.{drops_call, drops_reached, derives_builtin, skips_attribute, falls_back, defines_rules, defines_macro}
 use Rattle.hir_collector_rules.specs.Steps.{closes_module, closing, declares_item, declares_enum, lists_constant, lists_impl, opens_module, opens_file}
 use Rattle.hir_collector_rules.specs.Steps.{drops_file, misses_file, enters_block, reaches_imports, reaches_crate, resolves_imports, HasAttribute, IsItemOf}
@@ -362,6 +364,7 @@ module _ (tables : TablesValue) (w : Workspace) (from : Beginning) (answer : Col
     globs = f.globs;
   }
   written-act s (ends i fate) f fine = same_but s _ (Keeps-act s (ends i fate)) refl refl refl refl f
+  written-act s (meets_eager i seen) f fine = same_but s _ (Keeps-act s (meets_eager i seen)) refl refl refl refl f
   written-act s settles f fine = same_but s _ (Keeps-act s settles) refl refl refl refl f
   written-act s (changes_imports c) f fine = written-imports s c f fine
   written-act s (adds_textual home name makro) f fine = same_but s _ (Keeps-act s (adds_textual home name makro)) refl refl refl refl f
@@ -586,6 +589,7 @@ module _ (tables : TablesValue) (w : Workspace) (from : Beginning) (answer : Col
         tt,
       ),
     )
+    all_fine (meets_macro i d makro x) may sees read = (tt, tt)
     all_fine rests may sees read = (tt, tt)
     all_fine (expands_call i d makro x) may sees read = (
       tt,

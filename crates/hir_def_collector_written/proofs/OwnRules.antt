@@ -44,7 +44,8 @@ use Rattle.hir_collector_rules.specs.Items.{own_visibility}
 use Rattle.hir_collector_rules.specs.Macros.{is_exported, macro_declaration}
 use Rattle.hir_collector_rules.specs.Start.{Beginning, exports_macros, krate_of, read_by}
 use Rattle.hir_collector_rules.specs.State.{State, Task, Visit, behind, visits}
-use Rattle.hir_collector_rules.specs.Steps.{Rule, drops_item, awaits_attribute, lists_derives, faults_derive, exports_macro, reaches_call, rests, expands_call}
+use Rattle.hir_collector_rules.specs.Steps.{Rule, drops_item, awaits_attribute, lists_derives, faults_derive, exports_macro, reaches_call, rests}
+use Rattle.hir_collector_rules.specs.Steps.{expands_call, meets_macro}
 use Rattle.hir_collector_rules.specs.Steps.{drops_call, drops_reached, derives_builtin, skips_attribute, falls_back, defines_rules, defines_macro}
 use Rattle.hir_collector_rules.specs.Steps.{closes_module, declares_item, declares_enum, lists_constant, lists_impl, opens_module, opens_file, drops_file}
 use Rattle.hir_collector_rules.specs.Steps.{misses_file, enters_block, reaches_imports, reaches_crate, resolves_imports, May, acts, asking, enum_declaration}
@@ -403,6 +404,7 @@ module _ (tables : TablesValue) (w : Workspace) (finished : Maps) (from : Beginn
         (listed_here site.home makro [])) in
         (tt, (tt, (tt, (tt, (bound, (tt, (exported, tt)))))))
     own_rule (reaches_call site head path rest) may later = (tt, (tt, tt))
+    own_rule (meets_macro i d makro x) may later = (tt, tt)
     own_rule rests may later = (tt, tt)
     own_rule (expands_call i d makro x) may later = (tt, (tt, (tt, fine_expanding Fine _ (λ t helper. tt) _ _ d (error_of x.there) (λ t text. tt) _)))
     own_rule (drops_call i d) may later = (tt, tt)

@@ -201,4 +201,4 @@ uses_are_imported tables w finished from answer e =
     let seen : Maps = read_by w finished from.start in
     walks_all tables w seen from answer e.last.core (holders_by finished from.start)
     (back_Steps tables w seen from answer e.last.core (answer_asked tables w finished from answer e) e.derived
-    (at_end tables w seen from answer e.last.core e.last (leftover_reports e.last.core) e.map_is e.visited refl))
+    (at_end tables w seen from answer e.last.core e.last (leftover_reports seen e.last.core) e.map_is e.visited refl))

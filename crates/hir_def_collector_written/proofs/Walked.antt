@@ -54,7 +54,8 @@ use Rattle.hir_collector_rules.specs.Keys.{environment, tree_at}
 use Rattle.hir_collector_rules.specs.Macros.{is_macro_use, macro_declaration}
 use Rattle.hir_collector_rules.specs.ModuleFiles.{ModuleFile, file_key}
 use Rattle.hir_collector_rules.specs.State.{Core, State, Task, Visit, behind, import_state, visits, visits_over}
-use Rattle.hir_collector_rules.specs.Steps.{Rule, drops_item, awaits_attribute, lists_derives, faults_derive, exports_macro, reaches_call, rests, expands_call}
+use Rattle.hir_collector_rules.specs.Steps.{Rule, drops_item, awaits_attribute, lists_derives, faults_derive, exports_macro, reaches_call, rests}
+use Rattle.hir_collector_rules.specs.Steps.{expands_call, meets_macro}
 use Rattle.hir_collector_rules.specs.Steps.{drops_call, drops_reached, derives_builtin, skips_attribute, falls_back, defines_rules, defines_macro}
 use Rattle.hir_collector_rules.specs.Steps.{closes_module, declares_item, declares_enum, lists_constant, lists_impl, opens_module, opens_file, drops_file}
 use Rattle.hir_collector_rules.specs.Steps.{misses_file, enters_block, reaches_imports, reaches_crate, resolves_imports, HasAttribute, IsItemOf, May, Numbered}
@@ -300,6 +301,7 @@ module _ (tables : TablesValue) (w : Workspace) (answer : CollectedValue) (last 
     walks_rule (exports_macro site head name d e rest) may found kept stays f =
         at_next may.here.next (leaf_walks answer last site head (function name) may.here.done tt, f)
     walks_rule (reaches_call site head path rest) may found kept stays f = at_next may.next (leaf_walks answer last site head (macro_call path) may.done tt, f)
+    walks_rule (meets_macro i d makro x) may found kept stays f = f
     walks_rule rests may found kept stays f = f
     walks_rule (expands_call i d makro x) may found kept stays f = at_next may.called.due.visited tt
     walks_rule (drops_call i d) may found kept stays f = f
@@ -392,6 +394,7 @@ module _ (tables : TablesValue) (w : Workspace) (answer : CollectedValue) (last 
           (tt, (tt, (tt, (tt, (tt, fine_reporting Well _ _ expander (λ t. tt) _)))))
       well_rule (lists_derives v at a adt paths call rest) may sees numbers read stays f = (tt, (tt, (tt, tt)))
       well_rule (exports_macro site head name d e rest) may sees numbers read stays f = (tt, (tt, (tt, (tt, (tt, (tt, (tt, tt)))))))
+      well_rule (meets_macro i d makro x) may sees numbers read stays f = (tt, tt)
       well_rule rests may sees numbers read stays f = (tt, tt)
       well_rule (expands_call i d makro x) may sees numbers read stays f =
           let next : List Task = visits_over (call_site d x.id) x.tree.tree.items in

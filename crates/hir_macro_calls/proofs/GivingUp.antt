@@ -17,7 +17,7 @@ use Rattle.hir_macro_calls.specs.declared.due.Due.{Due}
 use Rattle.hir_macro_calls.specs.declared.due.Due.TheVariants.{Derives, Nothing, Reaches, Skips}
 use Rattle.hir_collector_state.specs.HirCollectorRules.CallMoves.{FindsBuiltin, IsAttributeWaiting, IsFirstWaiting, NoneWaits, NoneWaitsBefore}
 use Rattle.hir_macro_calls.specs.Due.{IsDueOf}
-use Rattle.hir_collector_state.specs.HirCollectorRules.Calls.{IsWaiting, LeadsNowhere, builtin_impl, called_macro, expands_by}
+use Rattle.hir_collector_state.specs.HirCollectorRules.Calls.{IsWaiting, LacksMacro, LeadsNowhere, builtin_impl, expands_by}
 use Rattle.hir_collector_state.specs.HirCollectorRules.Calls.{is_call, is_inert_by, is_inert_now, item_in}
 use Rattle.hir_collector_state.specs.HirCollectorRules.Calls.{waiting_item}
 use Rattle.hir_collector_state.specs.HirCollectorRules.Keys.{Environment}
@@ -36,11 +36,11 @@ nothing_waits finished c i none = record {
 }
 
 -- nor where nothing is to be done about what does
-pub nothing_due : (finished : Maps) (c : Core) (i : ℕ) (here : MacroDirective) → IsWaiting (at_rest c) i here → IsDueOf finished c here Nothing
+pub nothing_due : (finished : Maps) (c : Core) (i : ℕ) (here : MacroDirective) → IsWaiting (at_rest c) i here → IsDueOf finished c i here Nothing
     → LeadsNowhere finished (at_rest c) i
 nothing_due finished c i here at due = record {
   shallow = λ d waits. subst (λ (x : MacroDirective). is_call x ≡ true → x.site.level < c.map.crate_data.recursion_limit) (same d waits) due.0;
-  nowhere = λ d waits. subst (λ (x : MacroDirective). called_macro finished c.local c.map x ≡ None) (same d waits) due.1;
+  nowhere = λ d waits. subst (LacksMacro finished c i) (same d waits) due.1;
   active = λ d waits. subst (λ (x : MacroDirective). is_inert_now c.map x ≡ false) (same d waits) due.2;
 }
   where
@@ -158,14 +158,14 @@ inert_item m node (Derive path attr index adt) inert = absurd (let no : ⊥ = cc
 inert_item m node (Attr path attr k) inert = (k, refl)
 
 -- what is to be done about what reaches a macro without an expansion
-module _ (finished : Maps) (c : Core) (d : MacroDirective) (makro : MacroId) (due : Due) (finds : FindsBuiltin finished c d makro)
+module _ (finished : Maps) (c : Core) (i : ℕ) (d : MacroDirective) (makro : MacroId) (due : Due) (finds : FindsBuiltin finished c d makro)
     (derives : waiting_item d ≡ None → due ≡ Derives makro) (skips : (k : WaitingItem) → waiting_item d ≡ Some k → due ≡ Skips) where
-  pub due_builtin : IsDueOf finished c d due
+  pub due_builtin : IsDueOf finished c i d due
   due_builtin = go (waiting_item d) refl
     where
-      go : (o : Option WaitingItem) → waiting_item d ≡ o → IsDueOf finished c d due
-      go None e = subst (IsDueOf finished c d) (sym (derives e)) (finds, e)
-      go (Some k) e = subst (IsDueOf finished c d) (sym (skips k e)) (k, e, by_builtin makro finds.reaches finds.builtin)
+      go : (o : Option WaitingItem) → waiting_item d ≡ o → IsDueOf finished c i d due
+      go None e = subst (IsDueOf finished c i d) (sym (derives e)) (finds, e)
+      go (Some k) e = subst (IsDueOf finished c i d) (sym (skips k e)) (k, e, by_builtin makro finds.reaches finds.builtin)
 
   pub reaches_none : (other : MacroId) → due ≡ Reaches other → ⊥
   reaches_none other reaches = go (waiting_item d) refl

@@ -12,7 +12,7 @@ use Rattle.hir_worklist.specs.Waking.{KeepsQueued}
 use Rattle.hir_call_queue.specs.declared.queue.CallQueue.{CallQueue}
 use Rattle.hir_collector_state.specs.HirCollectorRules.declared.macro_directive.Fate.TheVariants.{Handled, Waits}
 use Rattle.hir_collector_state.specs.HirCollectorRules.declared.macro_directive.MacroDirective.{MacroDirective}
-use Rattle.hir_collector_state.specs.HirCollectorRules.CallMoves.{ComesToRest, NoneWaits, TriesCall, TriesCalls, handled, idle, left, rested, round}
+use Rattle.hir_collector_state.specs.HirCollectorRules.CallMoves.{ComesToRest, NoneWaits, OnlyMeets, TriesCall, TriesCalls, handled, idle, left, rested, round}
 use Rattle.hir_collector_state.specs.HirCollectorRules.Calls.{IsWaiting, LeadsNowhere}
 use Rattle.hir_collector_state.specs.HirCollectorRules.Keys.{Environment}
 use Rattle.hir_collector_state.specs.HirCollectorRules.Rounds as rounds
@@ -23,11 +23,12 @@ use Rattle.hir_collector_state.specs.HirCollectorRules.Steps.{Steps}
 use Rattle.hir_collector_imports.specs.Waiting.{IsUpToDate}
 use Rattle.hir_collector_state.proofs.HirCollectorRules.Lists.{get_inside}
 use Rattle.hir_collector_state.proofs.HirCollectorRules.Moves.{Steps-append}
-use Rattle.hir_collector_state.proofs.HirCollectorRules.Tried.{WasTried-extend, rounds_steps, waiting_before}
+use Rattle.hir_collector_state.proofs.HirCollectorRules.Tried.{WasTried-extend, handled_stays, rounds_steps, waiting_before}
+use Rattle.hir_macro_calls.proofs.Meeting.{meets_more, meets_none, nowhere_still, rests_still}
 
--- the calls were tried that aren't left: one was handled, or nothing was done
+-- the calls were tried that aren't left: one was handled, or nothing was done but that calls met eager macros
 pub data AreTried (env : Environment) (finished : Maps) (old now : Core) (places : List ℕ) : Bool → Type 0 where
-  nothing_done : now ≡ old → ((k : ℕ) → is_among k places ≡ false → LeadsNowhere finished (at_rest old) k) → AreTried env finished old now places false
+  nothing_done : OnlyMeets old now → ((k : ℕ) → is_among k places ≡ false → LeadsNowhere finished (at_rest now) k) → AreTried env finished old now places false
   some_handled : Rises (at_rest old) (at_rest now) → ((k : ℕ) (d : MacroDirective) → is_among k places ≡ false → IsWaiting (at_rest old) k d
       → WasTried env finished (at_rest old) (at_rest now) k)
       → AreTried env finished old now places true
@@ -58,7 +59,7 @@ module _ (env : Environment) (finished : Maps) (old : Core) where
   -- at first all are left that are queued
   pub tried_first : (q : CallQueue) → IsUpToDate finished q old None → (worklist_of q).current ≡ [] → count_of (worklist_of q) ≡ length old.calls
       → AreTried env finished old old (opened (worklist_of q)).current false
-  tried_first q up over all = nothing_done refl (λ k out. record {
+  tried_first q up over all = nothing_done (meets_none old old refl) (λ k out. record {
     shallow = λ d waits. up.shallow k d (rests k d out waits) (λ none. absurd cc) waits;
     nowhere = λ d waits. up.nowhere k d (rests k d out waits) (λ none. absurd cc) waits;
     active = λ d waits. up.active k d (rests k d out waits) (λ none. absurd cc) waits;
@@ -92,15 +93,16 @@ module _ (env : Environment) (finished : Maps) (old : Core) where
     pub tried_next : (done progress : Bool) → AreTried env finished old now before progress → TriesCall finished now new i done → AreTried env finished old new
         after (cond done true progress)
     tried_next false false (nothing_done same nowhere) (left stays here) =
-        nothing_done (stays ∙ same) (one_more (LeadsNowhere finished (at_rest old)) nowhere (subst (λ (c : Core). LeadsNowhere finished (at_rest c) i) same
-        here))
+        nothing_done (meets_more same stays)
+        (one_more (LeadsNowhere finished (at_rest new)) (λ k gone. nowhere_still now new stays step k (nowhere k gone)) here)
     tried_next false true (some_handled rises tried) (left stays here) =
-        some_handled (subst (λ (c : Core). Rises (at_rest old) (at_rest c)) (sym stays) rises)
-        (λ k d out waits. one_more (Tried new) (λ j gone e w. WasTried-extend step (tried j e gone w)) (λ e w. met (at_rest now) so_far step here) k out d
-        waits)
+        some_handled
+        (record { place = rises.place; call = rises.call; waited = rises.waited; handled = handled_stays step rises.place rises.handled })
+        (λ k d out waits. one_more (Tried new) (λ j gone e w. WasTried-extend step (tried j e gone w))
+        (λ e w. met (at_rest new) (Steps-append so_far step) steps.none here) k out d waits)
     tried_next true false (nothing_done same nowhere) (handled d waits done) =
         some_handled (rises_here d waits done)
-        (λ k e out w. one_more (Tried new) (λ j gone f v. met (at_rest old) steps.none (Steps-append so_far step) (nowhere j gone)) (λ f v. rounds.handled done)
+        (λ k e out w. one_more (Tried new) (λ j gone f v. met (at_rest now) so_far step (nowhere j gone)) (λ f v. rounds.handled done)
         k out e w)
     tried_next true true (some_handled rises tried) (handled d waits done) =
         some_handled (rises_here d waits done)
@@ -142,20 +144,19 @@ module _ (env : Environment) (finished : Maps) (old : Core) where
   of_round settled new false some_handled_here tried = absurd (let no : ⊥ = cc in no)
   of_round settled new true some_handled_here (round is) = is
 
-  -- where none was, all is as it was, and nothing that waits reaches a macro
-  pub none_handled : (settled new : Core) (progress : Bool) → progress ≡ false → TriesCalls env finished settled new progress → (new ≡ settled)
-      × ((i : ℕ) → LeadsNowhere finished (at_rest settled) i)
+  -- where none was, calls met eager macros at most, and nothing that waits reaches a macro with all that this asks for first
+  pub none_handled : (settled new : Core) (progress : Bool) → progress ≡ false → TriesCalls env finished settled new progress → OnlyMeets settled new
+      × ((i : ℕ) → LeadsNowhere finished (at_rest new) i)
   none_handled settled new true no_progress tried = absurd (let no : ⊥ = cc in no)
   none_handled settled new false no_progress (idle same nowhere) = (same, nowhere)
 
   -- and where no attribute waited either, imports rest still
-  pub rests_idle : (settled tried new : Core) → IsAtRest finished (import_state (at_rest settled)) → tried ≡ settled
-      → ((i : ℕ) → LeadsNowhere finished (at_rest settled) i) → new ≡ tried → NoneWaits tried
+  pub rests_idle : (settled tried new : Core) → IsAtRest finished (import_state (at_rest settled)) → OnlyMeets settled tried
+      → ((i : ℕ) → LeadsNowhere finished (at_rest tried) i) → new ≡ tried → NoneWaits tried
       → ComesToRest env finished old new false
-  rests_idle settled tried new rest same nowhere stays none =
-      let is : new ≡ settled = stays ∙ same in
-      rested (subst (λ (c : Core). IsAtRest finished (import_state (at_rest c))) (sym is) rest) (λ i. subst (λ (c : Core). LeadsNowhere finished (at_rest c) i)
-      (sym is) (nowhere i))
+  rests_idle settled tried new rest meets nowhere stays none =
+      rested (subst (λ (c : Core). IsAtRest finished (import_state (at_rest c))) (sym stays) (rests_still finished settled tried meets rest))
+      (λ i. subst (λ (c : Core). LeadsNowhere finished (at_rest c) i) (sym stays) (nowhere i))
       (subst NoneWaits (sym stays) none)
 
 -- what is queued changes nothing
@@ -170,9 +171,9 @@ pub was_handled : (finished : Maps) (old new : Core) (i : ℕ) (done : Bool) →
 was_handled finished old new i true (handled d waits done) e = done
 was_handled finished old new i false (left stays here) e = absurd (let no : ⊥ = cc in no)
 
--- one that was left reaches no macro, and nothing was done
-pub was_left : (finished : Maps) (old new : Core) (i : ℕ) (done : Bool) → TriesCall finished old new i done → done ≡ false → (new ≡ old)
-    × LeadsNowhere finished (at_rest old) i
+-- one that was left reaches no macro with all that this asks for first, and nothing was done but that it met an eager one
+pub was_left : (finished : Maps) (old new : Core) (i : ℕ) (done : Bool) → TriesCall finished old new i done → done ≡ false → OnlyMeets old new
+    × LeadsNowhere finished (at_rest new) i
 was_left finished old new i true (handled d waits done) e = absurd (let no : ⊥ = cc in no)
 was_left finished old new i false (left stays here) e = (stays, here)
 

@@ -8,7 +8,7 @@ use Rattle.std.specs.Prelude.{not, slice_index_or}
 use Rattle.hir_collector_state.specs.HirIds.declared.ast_id.AstId.{AstId}
 use Rattle.hir_collector_state.specs.HirDefMapLaws.ReadLaw.{BeginsOutside}
 use Rattle.hir_collector_state.specs.HirDefMapRules.Overlay.{Maps}
-use Rattle.hir_collector_state.specs.HirDefMapRules.State.{CrateData, IsInOrder}
+use Rattle.hir_collector_state.specs.HirDefMapRules.State.{CrateData, IsInOrder, Local, Map}
 use Rattle.hir_collector_state.specs.HirNameres.declared.nameres.path_resolution.slots.Slot.{Slot as PathSlot}
 use Rattle.hir_worklist.proofs.Idle.{idle-closed, idle-opened, idle-taken}
 use Rattle.hir_worklist.specs.Moves.{Takes, closed, empty_queue, opened}
@@ -21,31 +21,40 @@ use Rattle.hir_collector_state.specs.HirImportRules.Changed.{IsThere, IsUnhelped
 use Rattle.hir_call_queue.specs.Waking.{AreWatching, IsUnhelpedOn, IsWatching, IsWoken, attributes_of, is_apart, watchers_of, watches_item, with_worklist}
 use Rattle.hir_call_queue.specs.Waking.{worklist_of}
 use Rattle.hir_call_queue.specs.declared.queue.CallQueue.{CallQueue}
+use Rattle.hir_collector_state.specs.HirCollectorRules.declared.macro_directive.EagerMacro.{EagerMacro}
 use Rattle.hir_collector_state.specs.HirCollectorRules.declared.macro_directive.Fate.TheVariants.{Handled, Waits}
 use Rattle.hir_collector_state.specs.HirCollectorRules.declared.macro_directive.MacroDirective.{MacroDirective}
-use Rattle.hir_collector_state.specs.HirCollectorRules.Calls.{IsWaiting, LeadsNowhere, called_macro, is_call, is_inert_now}
+use Rattle.hir_collector_state.specs.HirCollectorRules.Calls.{IsWaiting, LacksMacro, LeadsNowhere, is_call, is_inert_now}
 use Rattle.hir_collector_state.specs.HirCollectorRules.Keys.{Environment}
-use Rattle.hir_collector_state.specs.HirCollectorRules.State.{Core, Run, at_rest, core_in}
+use Rattle.hir_collector_state.specs.HirCollectorRules.State.{Core, Run, at_rest, core_in, eager_at}
 use Rattle.hir_collector_state.specs.HirCollectorRules.Steps.{Steps}
 use Rattle.hir_collector_imports.specs.Waiting.{IsStale, IsUpToDate, KeepsWaiting, LiesApart, item_of}
-use Rattle.hir_collector_state.specs.Waiting.{NotesSlots, StandsStill, call_reads, is_helped}
+use Rattle.hir_collector_state.specs.Waiting.{NotesSlots, ReadsInVain, StandsStill, is_helped, lacks_inner, reaches_none}
 use Rattle.hir_collector_state.proofs.CallReads.{agree_itself, agree_later, inert_by_kind, modules_kept_itself, stands_nowhere}
 use Rattle.hir_collector_state.proofs.Noted.{modules_kept_later, slots_follow, slots_same, there_later}
+use Rattle.hir_collector_state.proofs.HirCollectorRules.Eager.{keeps_eager}
 use Rattle.hir_collector_state.proofs.HirCollectorRules.Tried.{calls_longer, waiting_before}
 use Rattle.hir_collector_imports.proofs.Outside.{apart-Steps}
 
 -- ---- what a call has seen
 
+-- what was read in vain was so where more is known of eager macros
+pub vain_later : (finished : Maps) (local : Local) (m : Map) (few more : List EagerMacro) (d : MacroDirective) (seen : List PathSlot)
+    → ((e : EagerMacro) → Contains few e → Contains more e) → ReadsInVain finished local m few d seen → ReadsInVain finished local m more d seen
+vain_later finished local m few more d seen keeps (reaches_none nowhere read) = reaches_none nowhere read
+vain_later finished local m few more d seen keeps (lacks_inner makro by path called known same among missing read) =
+    lacks_inner makro by path called (keeps by known) same among missing read
+
 -- it stands still as long as nothing of it is noted
-stands_later : (finished : Maps) (before now : Run) (d : MacroDirective) (seen : List PathSlot) → NotesSlots before now → now.changed.all ≡ false
-    → ((slot : PathSlot) → Contains seen slot → IsUntouched now.changed slot) → StandsStill finished (core_in before) d seen
-    → StandsStill finished (core_in now) d seen
+stands_later : (finished : Maps) (before now : Run) (i : ℕ) (d : MacroDirective) (seen : List PathSlot) → NotesSlots before now → now.changed.all ≡ false
+    → ((e : EagerMacro) → Contains (eager_at (core_in before) i) e → Contains (eager_at (core_in now) i) e)
+    → ((slot : PathSlot) → Contains seen slot → IsUntouched now.changed slot) → StandsStill finished (core_in before) i d seen
+    → StandsStill finished (core_in now) i d seen
 unfolding core_in
-stands_later finished before now d seen noted some untouched s = record {
+stands_later finished before now i d seen noted some keeps untouched s = record {
   map = s.map;
   local = s.local;
-  nowhere = s.nowhere;
-  read = s.read;
+  vain = vain_later finished s.local s.map (eager_at (core_in before) i) (eager_at (core_in now) i) d seen keeps s.vain;
   low = s.low;
   in_order = s.in_order;
   there = s.there;
@@ -59,20 +68,20 @@ stands_later finished before now d seen noted some untouched s = record {
 }
 
 -- a call that is tried in vain stands still
-stands_now : (finished : Maps) (c : Core) (d : MacroDirective) → BeginsOutside c.map.id c.local → called_macro finished c.local c.map d ≡ None
+stands_now : (finished : Maps) (c : Core) (i : ℕ) (d : MacroDirective) (slots : List PathSlot) → BeginsOutside c.map.id c.local
+    → ReadsInVain finished c.local c.map (eager_at c i) d slots
     → d.site.home < length c.map.modules → IsInOrder c.map
-    → All (IsThere (length c.map.modules)) (call_reads finished c.local c.map d) → StandsStill finished c d (call_reads finished c.local c.map d)
-stands_now finished c d outside nowhere low in_order there = record {
+    → All (IsThere (length c.map.modules)) slots → StandsStill finished c i d slots
+stands_now finished c i d slots outside vain low in_order there = record {
   map = c.map;
   local = c.local;
-  nowhere = nowhere;
-  read = refl;
+  vain = vain;
   low = low;
   in_order = in_order;
   there = there;
   keeps = modules_kept_itself c.map;
   outside = outside;
-  agree = λ n x l. agree_itself c.map c.local (get_or (call_reads finished c.local c.map d) n x);
+  agree = λ n x l. agree_itself c.map c.local (get_or slots n x);
 }
 
 -- ---- what one call has seen, and what the others
@@ -105,7 +114,7 @@ record Remains (finished : Maps) (q : CallQueue) (before now : Run) : Type 0 whe
   seen : ℕ → List PathSlot
   watched : is_apart q ≡ true → AreWatching seen q
   stands : is_apart q ≡ true → (p : ℕ) (d : MacroDirective) → IsIdle (worklist_of q) p → IsWaiting (at_rest (core_in now)) p d
-      → StandsStill finished (core_in before) d (seen p)
+      → StandsStill finished (core_in before) p d (seen p)
   on_items : is_apart q ≡ true → (p : ℕ) (d : MacroDirective) → IsIdle (worklist_of q) p → IsWaiting (at_rest (core_in now)) p d → (item : AstId) → item_of d
       ≡ Some item
       → watches_item (attributes_of q) item p ≡ true
@@ -163,7 +172,7 @@ module _ (finished : Maps) (q : CallQueue) (before now : Run) (waits : KeepsWait
       active p d false e idle waiting = up.active p d idle (other_place i p e) (waits.before p d (inside_of up.count p idle) waiting)
 
       go : is_apart q ≡ true → (p : ℕ) (d : MacroDirective) (b : Bool) → (i == p) ≡ b → IsIdle (worklist_of q) p → IsWaiting (at_rest (core_in now)) p d
-          → StandsStill finished (core_in before) d (cond b [] (up.seen p))
+          → StandsStill finished (core_in before) p d (cond b [] (up.seen p))
       go a p d true e idle waiting = absurd (over d (subst (λ (k : ℕ). IsWaiting (at_rest (core_in now)) k d) (sym (same_place i p e)) waiting))
       go a p d false e idle waiting = up.stands a p d idle (other_place i p e) (waits.before p d (inside_of up.count p idle) waiting)
 
@@ -175,19 +184,18 @@ module _ (finished : Maps) (q r : CallQueue) (before now : Run) (noted : NotesSl
 
   module _ (m : Remains finished q before now) where
     still : is_apart r ≡ true → (p : ℕ) (d : MacroDirective) → IsIdle (worklist_of r) p → IsWaiting (at_rest (core_in now)) p d
-        → StandsStill finished (core_in now) d (m.seen p)
+        → StandsStill finished (core_in now) p d (m.seen p)
     still a p d idle waiting =
-        stands_later finished before now d (m.seen p) noted (woken.some (was_apart a) p idle)
+        stands_later finished before now p d (m.seen p) noted (woken.some (was_apart a) p idle) (waits.eager p)
         (λ slot has. woken.untouched (was_apart a) m.seen (m.watched (was_apart a)) p idle slot has)
         (m.stands (was_apart a) p d (woken.idle p idle) waiting)
 
-    nowhere_now : (p : ℕ) (d : MacroDirective) → IsIdle (worklist_of r) p → IsWaiting (at_rest (core_in now)) p d → called_macro finished (core_in now).local
-        (core_in now).map d ≡ None
+    nowhere_now : (p : ℕ) (d : MacroDirective) → IsIdle (worklist_of r) p → IsWaiting (at_rest (core_in now)) p d → LacksMacro finished (core_in now) p d
     nowhere_now p d idle waiting = go (is_apart r) refl
       where
-        go : (b : Bool) → is_apart r ≡ b → called_macro finished (core_in now).local (core_in now).map d ≡ None
+        go : (b : Bool) → is_apart r ≡ b → LacksMacro finished (core_in now) p d
         go true a =
-            stands_nowhere finished (core_in now) d (m.seen p) (still a p d idle waiting) (apart a).apart
+            stands_nowhere finished (core_in now) p d (m.seen p) (still a p d idle waiting) (apart a).apart
         go false a = absurd (woken.alone (sym woken.on.apart ∙ a) p idle)
 
     same_limit : now.changed.all ≡ false → (core_in now).map.crate_data.recursion_limit ≡ (core_in before).map.crate_data.recursion_limit
@@ -280,12 +288,11 @@ module _ (finished : Maps) (q r : CallQueue) (c : Core) (i : ℕ) (up : IsUpToDa
       shallow p d false e idle waiting = up.shallow p d idle (other_place i p e) waiting
 
       stands : is_apart q ≡ true → (p : ℕ) (d : MacroDirective) (b : Bool) → (i == p) ≡ b → IsIdle (worklist_of q) p → IsWaiting (at_rest c) p d
-          → StandsStill finished c d (cond b [] (up.seen p))
+          → StandsStill finished c p d (cond b [] (up.seen p))
       stands a p d true e idle waiting = absurd (over d (subst (λ (k : ℕ). IsWaiting (at_rest c) k d) (sym (same_place i p e)) waiting))
       stands a p d false e idle waiting = up.stands a p d idle (other_place i p e) waiting
 
-      nowhere : (p : ℕ) (d : MacroDirective) (b : Bool) → (i == p) ≡ b → IsIdle (worklist_of q) p → IsWaiting (at_rest c) p d → called_macro finished c.local
-          c.map d ≡ None
+      nowhere : (p : ℕ) (d : MacroDirective) (b : Bool) → (i == p) ≡ b → IsIdle (worklist_of q) p → IsWaiting (at_rest c) p d → LacksMacro finished c p d
       nowhere p d true e idle waiting = absurd (over d (subst (λ (k : ℕ). IsWaiting (at_rest c) k d) (sym (same_place i p e)) waiting))
       nowhere p d false e idle waiting = up.nowhere p d idle (other_place i p e) waiting
 
@@ -294,10 +301,11 @@ module _ (finished : Maps) (q r : CallQueue) (c : Core) (i : ℕ) (up : IsUpToDa
       active p d false e idle waiting = up.active p d idle (other_place i p e) waiting
 
   -- one that reaches no macro, and watches what it has read
-  pub up_to_date_watched : (d : MacroDirective) → LiesApart finished q c → IsWaiting (at_rest c) i d → LeadsNowhere finished (at_rest c) i
+  pub up_to_date_watched : (d : MacroDirective) (slots : List PathSlot) → LiesApart finished q c → IsWaiting (at_rest c) i d
+      → LeadsNowhere finished (at_rest c) i → ReadsInVain finished c.local c.map (eager_at c i) d slots
       → d.site.home < length c.map.modules → IsInOrder c.map
-      → IsWatching (length c.map.modules) (call_reads finished c.local c.map d) (item_of d) i q r → IsUpToDate finished r c None
-  up_to_date_watched d apart here nowhere_here low in_order watching = record {
+      → IsWatching (length c.map.modules) slots (item_of d) i q r → IsUpToDate finished r c None
+  up_to_date_watched d slots apart here nowhere_here vain low in_order watching = record {
     seen = seen_with i slots up.seen;
     watched = λ a. watched_with i slots up.seen q r (up.watched (was a)) watching.idle watching.others (watching.each (was a));
     stands = λ a p e idle other waiting. stands a p e (i == p) refl idle waiting;
@@ -313,9 +321,6 @@ module _ (finished : Maps) (q r : CallQueue) (c : Core) (i : ℕ) (up : IsUpToDa
         in omega (arith, same, up.count);
   }
     where
-      slots : List PathSlot
-      slots = call_reads finished c.local c.map d
-
       was : is_apart r ≡ true → is_apart q ≡ true
       was a = sym watching.on.apart ∙ a
 
@@ -323,16 +328,17 @@ module _ (finished : Maps) (q r : CallQueue) (c : Core) (i : ℕ) (up : IsUpToDa
       same_call : (e : MacroDirective) → IsWaiting (at_rest c) i e → d ≡ e
       same_call e waiting = let one : slice_get c.calls i ≡ Some d = here.call in let two : slice_get c.calls i ≡ Some e = waiting.call in cc
 
-      stands_here : is_apart r ≡ true → (e : MacroDirective) → IsIdle (worklist_of r) i → IsWaiting (at_rest c) i e → StandsStill finished c e slots
+      stands_here : is_apart r ≡ true → (e : MacroDirective) → IsIdle (worklist_of r) i → IsWaiting (at_rest c) i e → StandsStill finished c i e slots
       stands_here a e idle waiting =
-          subst (λ (x : MacroDirective). StandsStill finished c x slots) (same_call e waiting)
-          (stands_now finished c d (apart (was a)).outside (nowhere_here.nowhere d here) low in_order (watching.there (was a) idle))
+          subst (λ (x : MacroDirective). StandsStill finished c i x slots) (same_call e waiting)
+          (stands_now finished c i d slots (apart (was a)).outside vain low in_order (watching.there (was a) idle))
 
       stands : is_apart r ≡ true → (p : ℕ) (e : MacroDirective) (b : Bool) → (i == p) ≡ b → IsIdle (worklist_of r) p → IsWaiting (at_rest c) p e
-          → StandsStill finished c e (cond b slots (up.seen p))
+          → StandsStill finished c p e (cond b slots (up.seen p))
       stands a p e true f idle waiting =
-          stands_here a e (subst (IsIdle (worklist_of r)) (sym (same_place i p f)) idle) (subst (λ (k : ℕ). IsWaiting (at_rest c) k e) (sym (same_place i p f))
-          waiting)
+          subst (λ (k : ℕ). StandsStill finished c k e slots) (same_place i p f)
+          (stands_here a e (subst (IsIdle (worklist_of r)) (sym (same_place i p f)) idle)
+          (subst (λ (k : ℕ). IsWaiting (at_rest c) k e) (sym (same_place i p f)) waiting))
       stands a p e false f idle waiting = up.stands (was a) p e (watching.idle p idle) (other_place i p f) waiting
 
       on_items : is_apart r ≡ true → (p : ℕ) (e : MacroDirective) (b : Bool) → (i == p) ≡ b → IsIdle (worklist_of r) p → IsWaiting (at_rest c) p e
@@ -349,9 +355,10 @@ module _ (finished : Maps) (q r : CallQueue) (c : Core) (i : ℕ) (up : IsUpToDa
       shallow p e true f idle waiting = nowhere_here.shallow e (subst (λ (k : ℕ). IsWaiting (at_rest c) k e) (sym (same_place i p f)) waiting)
       shallow p e false f idle waiting = up.shallow p e (watching.idle p idle) (other_place i p f) waiting
 
-      nowhere : (p : ℕ) (e : MacroDirective) (b : Bool) → (i == p) ≡ b → IsIdle (worklist_of r) p → IsWaiting (at_rest c) p e → called_macro finished c.local
-          c.map e ≡ None
-      nowhere p e true f idle waiting = nowhere_here.nowhere e (subst (λ (k : ℕ). IsWaiting (at_rest c) k e) (sym (same_place i p f)) waiting)
+      nowhere : (p : ℕ) (e : MacroDirective) (b : Bool) → (i == p) ≡ b → IsIdle (worklist_of r) p → IsWaiting (at_rest c) p e → LacksMacro finished c p e
+      nowhere p e true f idle waiting =
+          subst (λ (k : ℕ). LacksMacro finished c k e) (same_place i p f)
+          (nowhere_here.nowhere e (subst (λ (k : ℕ). IsWaiting (at_rest c) k e) (sym (same_place i p f)) waiting))
       nowhere p e false f idle waiting = up.nowhere p e (watching.idle p idle) (other_place i p f) waiting
 
       active : (p : ℕ) (e : MacroDirective) (b : Bool) → (i == p) ≡ b → IsIdle (worklist_of r) p → IsWaiting (at_rest c) p e → is_inert_now c.map e ≡ false
@@ -428,12 +435,16 @@ up_to_date_first finished q c none = record {
 -- calls stay while steps are taken, and one that waits waited before
 pub keeps_waiting : {env : Environment} {finished : Maps} (c d : Core) → Steps env finished (at_rest c) (at_rest d) → length c.fates ≡ length c.calls
     → KeepsWaiting c d
-keeps_waiting c d steps fated = record { longer = calls_longer steps; before = λ p x low waiting. waiting_before steps fated waiting low }
+keeps_waiting c d steps fated = record {
+  eager = (keeps_eager steps).seen;
+  longer = calls_longer steps;
+  before = λ p x low waiting. waiting_before steps fated waiting low;
+}
 
 -- a queue that was up to date is so but for what is noted
 pub stale_now : (finished : Maps) (q : CallQueue) (a : Run) → IsUpToDate finished q (core_in a) None → IsStale finished q a
 stale_now finished q a up =
-    record { before = a; up_to_date = up; noted = slots_same a a refl refl refl; waits = record { longer = omega arith; before = λ p d low waiting. waiting } }
+    record { before = a; up_to_date = up; noted = slots_same a a refl refl refl; waits = record { eager = λ p e h. h; longer = omega arith; before = λ p d low waiting. waiting } }
 
 -- and later too
 pub stale_later : (finished : Maps) (q : CallQueue) (a b : Run) → IsStale finished q a → NotesSlots a b → KeepsWaiting (core_in a) (core_in b)
@@ -443,6 +454,7 @@ stale_later finished q a b stale noted waits = record {
   up_to_date = stale.up_to_date;
   noted = slots_follow stale.noted noted;
   waits = record {
+    eager = λ p e h. waits.eager p e (stale.waits.eager p e h);
     longer = omega (arith, stale.waits.longer, waits.longer);
     before = λ p d low waiting. stale.waits.before p d low (waits.before p d (omega (arith, low, stale.waits.longer)) waiting);
   };

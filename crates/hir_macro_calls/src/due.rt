@@ -41,8 +41,8 @@ fn due_of_builtin(call: &MacroDirective, makro: MacroId) -> Due
 }
 
 /// What is to be done about what waits.
-pub fn due_of(run: &DefCollector, world: WorldPart<'_>, call: &MacroDirective) -> Due
-    ensures value { IsDueOf (part_of world.entry) (core_in run.now) call.now result }
+pub fn due_of(run: &DefCollector, world: WorldPart<'_>, i: usize, call: &MacroDirective) -> Due
+    ensures value { IsDueOf (part_of world.entry) (core_in run.now) i call.now result }
     ensures below { (makro : MacroId) → result ≡ Due.Reaches makro → call.now.site.level < 4294967295 }
 {
     if call.is_call() && run.is_too_deep(call) {
@@ -59,6 +59,9 @@ pub fn due_of(run: &DefCollector, world: WorldPart<'_>, call: &MacroDirective) -
     }
     if run.is_too_deep(call) {
         return Due::Drops(makro);
+    }
+    if run.missing_path(world, i, call, makro).is_some() {
+        return Due::Nothing;
     }
     Due::Reaches(makro)
 }

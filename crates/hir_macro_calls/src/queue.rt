@@ -1,5 +1,5 @@
 //! The queue of calls, between tries.
-ghost use Rattle.std.specs.Prelude.{◌≡◌, ◌<◌, None, OnOk, Some, length, slice_get};
+ghost use Rattle.std.specs.Prelude.{◌≡◌, ◌<◌, None, OnOk, Some, length, option_map, slice_get};
 ghost use Rattle.hir_collector_state.specs.HirDefMapRules.State.{IsInOrder};
 ghost use Rattle.hir_collector_state.specs.HirNameres.WorldParts.{part_of};
 ghost use Rattle.hir_worklist.specs.Queue.{count_of};
@@ -8,9 +8,11 @@ ghost use Rattle.hir_call_queue.specs.Waking.{GoesOn, IsWoken, is_apart, worklis
 ghost use Rattle.hir_collector_state.specs.HirCollectorRules.Calls.{LeadsNowhere, waiting_item};
 ghost use Rattle.hir_collector_state.specs.HirCollectorRules.declared.macro_directive.MacroDirective.{MacroDirective};
 ghost use Rattle.hir_collector_state.specs.HirCollectorRules.State.{at_rest, core_in};
+ghost use Rattle.hir_macro_calls.specs.Due.{missing_at};
 ghost use Rattle.hir_collector_imports.specs.Waiting.{IsBetweenPasses, IsStale, IsUpToDate, LiesApart, item_of};
 
 use hir_base::ast_id::AstId;
+use hir_base::mod_path::ModPath;
 use hir_call_queue::CallQueue;
 use hir_collector_state::def_collector::DefCollector;
 use hir_collector_state::hir_collector_rules::macro_directive::MacroDirective;
@@ -27,8 +29,26 @@ fn item_of(call: &MacroDirective) -> Option<AstId>
     }
 }
 
-/// Has the call at the place, if it waits, watch the slots that its path reads, an attribute besides the item that it stands
-/// on.
+/// The first path that reaches nothing of those that the macro which a call at the place reaches was seen to ask for.
+fn missing_at<'a>(
+    run: &'a DefCollector,
+    world: WorldPart<'_>,
+    i: usize,
+    call: &MacroDirective,
+) -> Option<&'a ModPath>
+    ensures value { option_map (λ path. path.now) result ≡ missing_at (part_of world.entry) (core_in run.now) i call.now }
+{
+    if run.eager_at(i).is_empty() {
+        return None;
+    }
+    match run.called_macro(world, call) {
+        Some(makro) => run.missing_path(world, i, call, makro),
+        None => None,
+    }
+}
+
+/// Has the call at the place, if it waits, watch the slots that its path reads, and those of the first path that its macro
+/// asks for and that reaches nothing; an attribute besides the item that it stands on.
 pub fn watch(
     run: &DefCollector,
     world: WorldPart<'_>,
@@ -48,6 +68,11 @@ pub fn watch(
     };
     let slots = run.call_slots(world, call);
     queue.watch(i, slots, run.map().module_count(), item_of(call))?;
+    let Some(path) = missing_at(run, world, i, call) else {
+        return Ok(());
+    };
+    let inner = run.inner_slots(world, call.site.home, path);
+    queue.watch(i, inner, run.map().module_count(), None)?;
     Ok(())
 }
 

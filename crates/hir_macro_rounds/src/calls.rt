@@ -19,15 +19,17 @@ ghost use Rattle.hir_mod_collector.specs.HirCollectorRules.Derivation.{IsSpent};
 ghost use Rattle.hir_mod_collector.specs.HirCollectorRules.Keys.{Environment, IsMeant, environment};
 ghost use Rattle.hir_mod_collector.specs.HirCollectorRules.Moves.{OnceGrown};
 ghost use Rattle.hir_mod_collector.specs.HirCollectorRules.UnknownSources.{LeadsToUnknownSource, ReachesUnknownSource};
-ghost use Rattle.hir_mod_collector.specs.HirCollectorRules.State.{Run, at_rest, core_in, import_state};
+ghost use Rattle.hir_mod_collector.specs.HirCollectorRules.State.{Run, at_rest, core_in, counted, import_state, with_eager};
 ghost use Rattle.hir_mod_collector.specs.HirCollectorRules.Steps.{CallsMacro, IsDue, Steps};
 ghost use Rattle.hir_mod_collector.specs.HirCollectorImports.Waiting.{IsBehind, IsBetweenPasses, IsGathered, IsStale, IsUpToDate, KeepsApart, LiesApart};
-ghost use Rattle.hir_mod_collector.specs.HirCollectorState.Waiting.{IsNotedBeside, NotesSlots};
+ghost use Rattle.hir_mod_collector.specs.HirCollectorState.Waiting.{IsNoted, IsNotedBeside, NotesSlots};
 
 use crate::resume::{give_up, skip};
 use either::Either;
 use hir_base::macro_kind::MacroId;
-use hir_call_expansion::expansion::{Expansion, call_site, is_meant, look_at_call, report_failed};
+use hir_call_expansion::expansion::{
+    CallLook, Expansion, call_site, is_meant, look_at_call, report_failed,
+};
 use hir_call_queue::{CallQueue, Changed};
 use hir_collector_derives::derives::{
     bring_helpers, builtin_impl, derive_builtin, drop_call, drop_reached,
@@ -36,7 +38,8 @@ use hir_import_resolution::ImportQueue;
 use hir_macro_calls::due::{Due, due_of};
 use hir_macro_calls::queue::{requeue, wake, watch};
 use hir_mod_collector::hir_collector_imports::settling;
-use hir_mod_collector::hir_collector_rules::macro_directive::{Fate, MacroDirective};
+use hir_mod_collector::hir_collector_rules::inner_paths::InnerPaths;
+use hir_mod_collector::hir_collector_rules::macro_directive::{EagerMacro, Fate, MacroDirective};
 use hir_mod_collector::hir_collector_rules::source_database::SourceDatabase;
 use hir_mod_collector::hir_collector_rules::start::{CollectError, STEP_LIMIT, StepError};
 use hir_mod_collector::hir_collector_state::def_collector::DefCollector;
@@ -47,8 +50,25 @@ use hir_tables::Tables;
 /// How many rounds may make progress. One more ends a run.
 pub const ROUND_LIMIT: u32 = 8192;
 
+/// Has what waits at the place wait on: the macro that it reaches asks for these paths first, and one of them reaches nothing.
+fn wait_for_paths(
+    run: &mut DefCollector,
+    i: usize,
+    makro: MacroId,
+    inner: InnerPaths,
+) -> Result<(), StepError>
+    ensures ok { OnOk result (core_in run.new ≡ counted (with_eager (core_in run.old) i (record { makro = makro; inner = inner }))) }
+    ensures noted { OnOk result (IsNoted run.old run.new) }
+    ensures many { result ≡ Err StepError.TooMany → STEP_LIMIT ≤ (core_in run.old).count }
+{
+    run.meet_eager(i, EagerMacro { makro, inner })?;
+    run.tick()?;
+    Ok(())
+}
+
 /// Expands what waits at the place, which reaches a macro whose source has a number: notes the call in its module, and handles
-/// the items of its expansion, with all that is in them.
+/// the items of its expansion, with all that is in them. Where the macro asks for a path first that reaches nothing, notes
+/// the paths that it asks for. Whether it expanded.
 fn expand_known<D: SourceDatabase>(
     run: &mut DefCollector,
     db: &mut D,
@@ -57,7 +77,7 @@ fn expand_known<D: SourceDatabase>(
     i: usize,
     call: &MacroDirective,
     makro: MacroId,
-) -> Result<(), StepError>
+) -> Result<bool, CollectError>
     requires ready { IsReady locations.old (part_of world) (core_in run.old) }
     requires called { CallsMacro (part_of world) (at_rest (core_in run.old)) i call.now makro }
     requires shallow { call.now.site.level < (core_in run.old).map.crate_data.recursion_limit }
@@ -68,10 +88,19 @@ fn expand_known<D: SourceDatabase>(
     ensures placed { AreCallsPlaced locations.old → AreCallsPlaced locations.new }
     ensures ok { OnOk result (OnceGrown locations.new (D.workspace db.old) (λ env. Steps env (part_of world.entry) (at_rest (core_in run.old)) (at_rest (core_in run.new)))) }
     ensures noted { OnOk result (IsNotedBeside (part_of world.entry) run.old run.new) }
-    ensures handled { OnOk result (slice_get (core_in run.new).fates i ≡ Some Fate.Handled) }
-    ensures many { result ≡ Err StepError.TooMany → OnceGrown locations.new (D.workspace db.old) (λ env. IsSpent env (part_of world.entry) (at_rest (core_in run.old))) }
+    ensures tried { IfOk result (λ done. TriesCall (part_of world.entry) (core_in run.old) (core_in run.new) i done) }
+    ensures many { result ≡ Err CollectError.TooMany → OnceGrown locations.new (D.workspace db.old) (λ env. IsSpent env (part_of world.entry) (at_rest (core_in run.old))) }
+    ensures unknown { result ≡ Err CollectError.UnknownSource → ReachesUnknownSource locations.new (part_of world.entry) (at_rest (core_in run.old)) }
 {
-    let Expansion { id, error, source } = look_at_call(run, db, world, locations, call, makro)?;
+    let look = look_at_call(run, db, world, locations, call, makro)?;
+    let expansion = match look {
+        CallLook::Expands(expansion) => expansion,
+        CallLook::Waits(inner) => {
+            wait_for_paths(run, i, makro, inner)?;
+            return Ok(false);
+        }
+    };
+    let Expansion { id, error, source } = expansion;
     let site = call_site(call, id)?;
     run.end_call(i, Fate::Handled);
     run.note_call(call, id)?;
@@ -80,10 +109,11 @@ fn expand_known<D: SourceDatabase>(
     run.tick()?;
     let ids = source.tree().top_level_items();
     walk_all(run, db, world, locations, &source, &site, ids)?;
-    Ok(())
+    Ok(true)
 }
 
-/// Expands what waits at the place, which reaches a macro, unless the source that writes the macro has no number.
+/// Expands what waits at the place, which reaches a macro, unless a source that writes the macro has no number, or one of
+/// those that it asks for first. Whether it expanded.
 fn expand<D: SourceDatabase>(
     run: &mut DefCollector,
     db: &mut D,
@@ -92,7 +122,7 @@ fn expand<D: SourceDatabase>(
     i: usize,
     call: &MacroDirective,
     makro: MacroId,
-) -> Result<(), CollectError>
+) -> Result<bool, CollectError>
     requires ready { IsReady locations.old (part_of world) (core_in run.old) }
     requires called { CallsMacro (part_of world) (at_rest (core_in run.old)) i call.now makro }
     requires shallow { call.now.site.level < (core_in run.old).map.crate_data.recursion_limit }
@@ -102,15 +132,14 @@ fn expand<D: SourceDatabase>(
     ensures placed { AreCallsPlaced locations.old → AreCallsPlaced locations.new }
     ensures ok { OnOk result (OnceGrown locations.new (D.workspace db.old) (λ env. Steps env (part_of world.entry) (at_rest (core_in run.old)) (at_rest (core_in run.new)))) }
     ensures noted { OnOk result (IsNotedBeside (part_of world.entry) run.old run.new) }
-    ensures handled { OnOk result (slice_get (core_in run.new).fates i ≡ Some Fate.Handled) }
+    ensures tried { IfOk result (λ done. TriesCall (part_of world.entry) (core_in run.old) (core_in run.new) i done) }
     ensures many { result ≡ Err CollectError.TooMany → OnceGrown locations.new (D.workspace db.old) (λ env. IsSpent env (part_of world.entry) (at_rest (core_in run.old))) }
     ensures unknown { result ≡ Err CollectError.UnknownSource → ReachesUnknownSource locations.new (part_of world.entry) (at_rest (core_in run.old)) }
 {
     if !is_meant(locations, makro) {
         return Err(CollectError::UnknownSource);
     }
-    expand_known(run, db, world, locations, i, call, makro)?;
-    Ok(())
+    expand_known(run, db, world, locations, i, call, makro)
 }
 
 /// Does what is to be done about what waits at the place.
@@ -125,7 +154,7 @@ fn do_due<D: SourceDatabase>(
 ) -> Result<bool, CollectError>
     requires ready { IsReady locations.old (part_of world) (core_in run.old) }
     requires waits { IsDue (at_rest (core_in run.old)) i call.now }
-    requires due { IsDueOf (part_of world) (core_in run.old) call.now due }
+    requires due { IsDueOf (part_of world) (core_in run.old) i call.now due }
     requires below { (makro : MacroId) → due ≡ Due.Reaches makro → call.now.site.level < 4294967295 }
     ensures kept { KeepsTables locations.old locations.new }
     ensures same { D.workspace db.new ≡ D.workspace db.old }
@@ -152,7 +181,7 @@ fn do_due<D: SourceDatabase>(
             derive_builtin(run, world, i, call, makro, imp)?;
         }
         Due::Drops(makro) => drop_reached(run, world, i, call, makro)?,
-        Due::Reaches(makro) => expand(run, db, world, locations, i, call, makro)?,
+        Due::Reaches(makro) => return expand(run, db, world, locations, i, call, makro),
     }
     Ok(true)
 }
@@ -179,7 +208,7 @@ fn try_call<D: SourceDatabase>(
     let Some(call) = run.waiting(i) else {
         return Ok(false);
     };
-    let due = due_of(run, world, call);
+    let due = due_of(run, world, i, call);
     if let Due::Nothing = due {
         return Ok(false);
     }

@@ -16,7 +16,6 @@ use hir_mod_collector::hir_collector_rules::macro_directive::{Fate, MacroDirecti
 use hir_mod_collector::hir_collector_rules::source_database::SourceDatabase;
 use hir_mod_collector::hir_collector_rules::start::StepError;
 use hir_mod_collector::hir_collector_state::def_collector::DefCollector;
-use hir_mod_collector::hir_nameres::nameres::diagnostics::DefDiagnostic;
 use hir_mod_collector::hir_nameres::world::part::WorldPart;
 use hir_mod_collector::mod_collector::walk_item;
 use hir_tables::Tables;
@@ -86,8 +85,7 @@ fn give_up_at<D: SourceDatabase>(
     ensures many { result ≡ Err StepError.TooMany → OnceGrown locations.new (D.workspace db.old) (λ env. IsSpent env (part_of world.entry) (at_rest (core_in run.old))) }
 {
     let site = site_behind(&call.site)?;
-    let at = run.module_id(call.site.home);
-    let told = DefDiagnostic::unresolved_macro_call(at, call.call_kind(), call.path().clone()?);
+    let told = run.call_report(world, i, call)?;
     run.end_call(i, Fate::GivenUp);
     run.tell(told)?;
     run.tick()?;

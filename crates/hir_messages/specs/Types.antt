@@ -29,6 +29,7 @@ pub use Rattle.hir_messages.specs.declared.diagnostic.CalledItem.{CalledItem}
 pub use Rattle.hir_messages.specs.declared.diagnostic.Diagnostic.{Diagnostic}
 pub use Rattle.hir_messages.specs.declared.diagnostic.DiagnosticKind.{DiagnosticKind}
 pub use Rattle.hir_messages.specs.declared.diagnostic.DiagnosticKind.TheVariants as diagnostic
+pub use Rattle.hir_messages.specs.declared.edit.CallKey.{CallKey}
 pub use Rattle.hir_messages.specs.declared.edit.Edit.{Edit}
 pub use Rattle.hir_messages.specs.declared.edit.Edit.TheVariants as edit
 pub use Rattle.hir_messages.specs.declared.edit.ExpansionEntry.{ExpansionEntry}

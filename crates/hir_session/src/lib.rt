@@ -29,7 +29,7 @@ pub use hir_session_machine::hir_session_core::hir_session_state::error::{
 pub use hir_session_machine::hir_wire::answer::Answer;
 pub use hir_session_machine::hir_wire::command::{CrateInput, MacroStyle, Shadow};
 pub use hir_session_machine::hir_wire::diagnostic::{Diagnostic, DiagnosticKind};
-pub use hir_session_machine::hir_wire::edit::{Edit, ExpansionEntry};
+pub use hir_session_machine::hir_wire::edit::{CallKey, Edit, ExpansionEntry};
 pub use hir_session_machine::hir_wire::items::{AssocItem, Items};
 pub use hir_session_machine::hir_wire::names::{BoundName, BoundNames};
 pub use hir_session_machine::hir_wire::reply::{Places, Status};

@@ -1,6 +1,6 @@
 -- Each module of what is kept is written in a file that has a number, or in what a call there expands to.
 use Rattle.std.specs.Prelude.{is_some, slice_get, map}
-use Rattle.std.proofs.Common.{◌≡◌, ◌≢◌, ◌∙◌, ap, sym, subst, refl, ℕ, zero, suc, ◌<◌, ◌≤◌, ◌++◌, true, List, [], ◌∷◌, length, IsSome, Option, None, Some}
+use Rattle.std.proofs.Common.{◌≡◌, ◌∙◌, ap, sym, subst, refl, ℕ, zero, suc, ◌<◌, ◌≤◌, ◌++◌, true, List, [], ◌∷◌, length, IsSome, Option, None, Some}
 use Rattle.std.proofs.Common.{option_map, arith, Contains}
 use Rattle.std.specs.Option.{option_and_then}
 use Rattle.hir_session_state.specs.HirIds.declared.ast_id.AstId.{AstId}
@@ -26,13 +26,13 @@ use Rattle.hir_session_state.specs.HirDefMapRules.Diagnostics.{call_node}
 use Rattle.hir_session_state.specs.HirDefMapRules.Overlay.{Maps}
 use Rattle.hir_session_state.specs.HirDefMapRules.State.{ModuleValue, module_at}
 use Rattle.hir_session_state.specs.HirMapParts.declared.origin.ModuleOrigin.{ModuleOrigin}
-use Rattle.hir_session_state.specs.HirCollectorRules.Calls.{AreCallsPlaced, Expanding, IsMeantAt, IsPlacedBelow, call_key}
-use Rattle.hir_session_state.specs.HirCollectorRules.Calls.{call_kind, call_loc, expansion_readings, kind_by}
-use Rattle.hir_session_state.specs.HirCollectorRules.Calls.{text_readings}
+use Rattle.hir_session_state.specs.HirCollectorRules.Calls.{AreCallsPlaced, EagerLook, Expanding, Grown, InnerMacro, IsMeantAt, IsPlacedBelow, call_key}
+use Rattle.hir_session_state.specs.HirCollectorRules.Calls.{call_kind, call_loc, eager_readings, entry_readings, expansion_readings, grown_readings}
+use Rattle.hir_session_state.specs.HirCollectorRules.Calls.{inner_readings, kind_by, text_readings}
 use Rattle.hir_session_state.specs.HirCollectorRules.Causes.{HasCause, IsOfCall, IsPassed}
-use Rattle.hir_session_state.specs.HirCollectorRules.Causes.HasCause.{root_tree, of_holder, declared_enum, candidate, of_call, dependency, handed_in}
+use Rattle.hir_session_state.specs.HirCollectorRules.Causes.HasCause.{root_tree, of_holder, declared_enum, candidate, of_call, of_eager, dependency, handed_in}
 use Rattle.hir_session_state.specs.HirCollectorRules.Derivation.{CollectedValue, Ends}
-use Rattle.hir_session_state.specs.HirCollectorRules.ModuleFiles.{file_key}
+use Rattle.hir_session_state.specs.HirCollectorRules.ModuleFiles.{Reading, file_key}
 use Rattle.hir_session_state.specs.HirCollectorRules.Start.{Beginning, held_keys, holder_keys, holders_by, origin_of, read_by, root_site, tree_key}
 use Rattle.hir_session_state.specs.HirCollectorRules.State.{State}
 use Rattle.hir_session_state.specs.HirCollectorRules.Steps.{keys_read}
@@ -42,6 +42,7 @@ use Rattle.hir_session_state.specs.HirCollectorRules.declared.macro_directive.Ma
 use Rattle.hir_session_state.specs.HirCollectorRules.declared.site.Site.{Site}
 use Rattle.hir_session_state.specs.HirCollectorRules.declared.start.Start.{Start}
 use Rattle.hir_session_state.specs.HirCollectorRules.declared.macro_directive.MacroDirectiveKind.TheVariants.{Attr, Derive, FnLike}
+use Rattle.hir_session_state.specs.HirCollectorRules.declared.source_database.Key.{Key}
 use Rattle.hir_session_state.specs.HirCollectorRules.declared.source_database.Key.TheVariants as keys
 use Rattle.hir_session_state.specs.HirCollectorRules.declared.start.Start.TheVariants as starts
 use Rattle.hir_session_state.proofs.HirCollectorRules.Tried.{call_stays}
@@ -77,32 +78,61 @@ of_file_begun s id from e = go id.block e
 
 -- ---- why a run asked for a tree
 
-last_of_three : {A : Type 0} (a b c x : A) → Contains (a ∷ b ∷ c ∷ []) x → a ≢ x → b ≢ x → c ≡ x
-last_of_three a b c x (zero, within, is) f g = absurd (f is)
-last_of_three a b c x (suc zero, within, is) f g = absurd (g is)
-last_of_three a b c x (suc (suc zero), within, is) f g = is
-last_of_three a b c x (suc (suc (suc n)), within, is) f g = absurd (let past : suc (suc (suc n)) < 3 = within in omega arith)
-
-last_of_four : {A : Type 0} (a b c d x : A) → Contains (a ∷ b ∷ c ∷ d ∷ []) x → a ≢ x → b ≢ x → c ≢ x → d ≡ x
-last_of_four a b c d x (zero, within, is) f g h = absurd (f is)
-last_of_four a b c d x (suc n, within, is) f g h = last_of_three b c d x (n, (let past : suc n < 4 = within in omega arith), is) g h
-
 same_tree : {a b : TreeKey} → keys.Tree a ≡ keys.Tree b → a ≡ b
 same_tree e = cc
+
+-- the key of a tree is such a one
+abbrev IfTree : (TreeKey → Type 0) → Key → Type 0
+IfTree p (keys.Tree key) = p key
+IfTree p (keys.Variants id) = Unit {0}
+IfTree p (keys.Text id) = Unit {0}
+IfTree p (keys.Input krate ast) = Unit {0}
+IfTree p (keys.Expansion id) = Unit {0}
+IfTree p (keys.Map id) = Unit {0}
+IfTree p (keys.Config krate) = Unit {0}
+
+abbrev TreesAre : (TreeKey → Type 0) → List Reading → Type 0
+TreesAre p [] = Unit {0}
+TreesAre p (r ∷ rs) = IfTree p r.key × TreesAre p rs
+
+in_both : (p : TreeKey → Type 0) (xs ys : List Reading) → TreesAre p xs → TreesAre p ys → TreesAre p (xs ++ ys)
+in_both p [] ys f g = g
+in_both p (x ∷ xs) ys f g = (f.0, in_both p xs ys f.1 g)
+
+of_each : (p : TreeKey → Type 0) (rs : List Reading) → TreesAre p rs → (key : TreeKey) → Contains (keys_read rs) (keys.Tree key) → p key
+of_each p [] f key h = absurd (let past : h.0 < 0 = h.1 in omega arith)
+of_each p (r ∷ rs) f key (zero, within, is) = let at : IfTree p (keys.Tree key) = subst (IfTree p) is f.0 in at
+of_each p (r ∷ rs) f key (suc n, within, is) = of_each p rs f.1 key (n, (let past : suc n < suc (length (keys_read rs)) = within in omega arith), is)
+
+of_text : (p : TreeKey → Type 0) (makro : MacroId) (text : Option (List ℕ)) → TreesAre p (text_readings makro text)
+of_text p (macros.Macro2Id id) text = (tt, tt)
+of_text p (macros.MacroRulesId id) text = (tt, tt)
+of_text p (macros.ProcMacroId id) text = tt
+
+of_inner : (p : TreeKey → Type 0) (inner : List InnerMacro) → TreesAre p (inner_readings inner)
+of_inner p [] = tt
+of_inner p (i ∷ is) = in_both p (text_readings i.makro i.text) (inner_readings is) (of_text p i.makro i.text) (of_inner p is)
+
+of_grown : (p : TreeKey → Type 0) (grown : Option Grown) → TreesAre p (grown_readings grown)
+of_grown p None = tt
+of_grown p (Some g) = (tt, of_inner p g.macros)
 
 -- a call asks for one tree, that of what it expands to
 tree_of_call : (own : Crate) (d : MacroDirective) (makro : MacroId) (x : Expanding) (key : TreeKey)
     → Contains (keys_read (text_readings makro x.text ++ expansion_readings own d x)) (keys.Tree key)
     → call_key own x.id ≡ key
-tree_of_call own d (macros.Macro2Id m) x key among = same_tree (
-    last_of_four (keys.Text (macros.Macro2Id m)) (keys.Input own d.ast_id) (keys.Expansion x.entry) (keys.Tree (call_key own x.id)) (keys.Tree key) among
-    (λ e. let wrong : ⊥ = cc in wrong) (λ e. let wrong : ⊥ = cc in wrong) (λ e. let wrong : ⊥ = cc in wrong))
-tree_of_call own d (macros.MacroRulesId m) x key among = same_tree (
-    last_of_four (keys.Text (macros.MacroRulesId m)) (keys.Input own d.ast_id) (keys.Expansion x.entry) (keys.Tree (call_key own x.id)) (keys.Tree key) among
-    (λ e. let wrong : ⊥ = cc in wrong) (λ e. let wrong : ⊥ = cc in wrong) (λ e. let wrong : ⊥ = cc in wrong))
-tree_of_call own d (macros.ProcMacroId m) x key among = same_tree (
-    last_of_three (keys.Input own d.ast_id) (keys.Expansion x.entry) (keys.Tree (call_key own x.id)) (keys.Tree key) among
-    (λ e. let wrong : ⊥ = cc in wrong) (λ e. let wrong : ⊥ = cc in wrong))
+tree_of_call own d makro x key among =
+    let p : TreeKey → Type 0 = λ (k : TreeKey). call_key own x.id ≡ k in
+    of_each p (text_readings makro x.text ++ expansion_readings own d x)
+    (in_both p (text_readings makro x.text) (expansion_readings own d x) (of_text p makro x.text)
+    (tt, in_both p (grown_readings x.grown) (entry_readings own x) (of_grown p x.grown) (tt, (refl, tt)))) key among
+
+-- one that waits for a path that its macro asks for asks for none
+no_tree_of_eager : (own : Crate) (d : MacroDirective) (makro : MacroId) (x : EagerLook) (key : TreeKey)
+    → Contains (keys_read (eager_readings own d makro x)) (keys.Tree key) → ⊥
+no_tree_of_eager own d makro x key among =
+    let p : TreeKey → Type 0 = λ (k : TreeKey). ⊥ in
+    of_each p (eager_readings own d makro x) (in_both p (text_readings makro x.text) _ (of_text p makro x.text) (tt, (tt, tt))) key among
 
 -- what holds a block is asked for by maps
 of_holders : {A : Type 0} (holders : List ModuleId) (key : TreeKey) → Contains (holder_keys holders) (keys.Tree key) → A
@@ -131,6 +161,8 @@ tree_by tables w all from last key (of_holder among) = of_held from.start (holde
 tree_by tables w all from last key (declared_enum home n listed is) = absurd (let wrong : ⊥ = cc in wrong)
 tree_by tables w all from last key (candidate at passed of) = of_a_file at.core.map.id.krate at.core.map.crate_data.edition of.id (same_tree of.is)
 tree_by tables w all from last key (of_call at passed of) = of_a_call at passed of (tree_of_call at.core.map.id.krate of.call of.makro of.seen key of.among)
+tree_by tables w all from last key (of_eager at passed of) =
+    absurd (no_tree_of_eager at.core.map.id.krate of.call of.makro of.seen key of.among)
 tree_by tables w all from last key (dependency c among is) = absurd (let wrong : ⊥ = cc in wrong)
 tree_by tables w all from last key (handed_in c among is) = absurd (let wrong : ⊥ = cc in wrong)
 

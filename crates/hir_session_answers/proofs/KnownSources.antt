@@ -2,6 +2,7 @@
 use Rattle.std.specs.Prelude.{is_some, not}
 use Rattle.std.proofs.Common.{◌≡◌, ◌<◌, ℕ, suc, true, false, List, [], length, Option, Some, None, option_map, ap, refl, subst, arith, Contains}
 use Rattle.hir_session_state.specs.HirIds.Ids.{container_module}
+use Rattle.hir_session_state.specs.HirBase.ModPath.{Path}
 use Rattle.hir_session_state.specs.HirIds.declared.ast_id.BlockId.{BlockId}
 use Rattle.hir_session_state.specs.HirIds.declared.ids.Crate.{Crate}
 use Rattle.hir_session_state.specs.HirIds.declared.ids.ItemContainerId.{ItemContainerId}
@@ -27,7 +28,7 @@ use Rattle.hir_session_state.specs.HirDefMapRules.State.{crate_map}
 use Rattle.hir_session_state.proofs.HirDefMapRules.NoneOf.{not_first}
 use Rattle.hir_session_state.proofs.HirDefMapRules.StaysSourced.{HoldsNowhere-overlay}
 use Rattle.hir_session_state.specs.HirCollectorRules.declared.source_database.Key.TheVariants as keys
-use Rattle.hir_assoc_items.specs.AssocItems.{ReachesUnknown, container_of}
+use Rattle.hir_assoc_items.specs.AssocItems.{IsUnknown, ReachesUnknown, container_of, macro_called, of_inner, of_macro}
 use Rattle.hir_assoc_items.specs.Written.{WrittenValue}
 use Rattle.hir_session_state.specs.HirCollectorRules.Calls.{IsMeantAt, by_style, macro_among}
 use Rattle.hir_session_state.specs.HirCollectorRules.Keys.{IsMeant, environment}
@@ -132,14 +133,28 @@ module _ (s : SessionState) (sound : IsSound s) (grown : TablesValue) (keeps : K
   -- no call in a trait or an impl reaches an unknown macro over what is kept of a map
   pub calls_known : (id : MapId) (r : Resolution) → kept_of s id ≡ Some r → (holder : ItemContainerId) (written_there : List WrittenValue)
       → ¬ ReachesUnknown (environment grown (workspace_of s)) (container_of (overlay (read_under s id r.holders) r.map) r.local holder) written_there
-  calls_known id r is holder written_there reaches =
-      let t : SourceTest = unnumbered grown in
-      let maps : Maps = overlay (read_under s id r.holders) r.map in
-      let own : HoldsNowhereIn t r.map × HoldsOfNoExtern t r.local = numbered id r is in
-      let nowhere : HoldsNowhere t maps =
-      HoldsNowhere-overlay t (read_under s id r.holders) r.map
-      (λ i placed e. (reads_numbered (transitive_in s.crates id.krate.0) r.holders i placed e).0) own.0 in
-      let answered : PerNs =
-      (resolution_of maps (by_style sub_namespaces.Bang r.local) (container_module holder) reaches.meets.path).resolved_def in
-      reaches.unknown (meant_there grown reaches.makro (reached_clear t answered reaches.makro reaches.meets.reaches.reached
-      (paths_answer t maps (by_style sub_namespaces.Bang r.local) (container_module holder) reaches.meets.path nowhere own.1)))
+  calls_known id r is holder written_there reaches = go reaches.unknown
+    where
+      t : SourceTest
+      t = unnumbered grown
+
+      maps : Maps
+      maps = overlay (read_under s id r.holders) r.map
+
+      own : HoldsNowhereIn t r.map × HoldsOfNoExtern t r.local
+      own = numbered id r is
+
+      nowhere : HoldsNowhere t maps
+      nowhere =
+          HoldsNowhere-overlay t (read_under s id r.holders) r.map
+          (λ i placed e. (reads_numbered (transitive_in s.crates id.krate.0) r.holders i placed e).0) own.0
+
+      -- what a path there reaches is meant
+      meant : (path : Path) (makro : MacroId) → macro_called (container_of maps r.local holder) path ≡ Some makro → IsMeant grown makro
+      meant path makro reached =
+          meant_there grown makro (reached_clear t (resolution_of maps (by_style sub_namespaces.Bang r.local) (container_module holder) path).resolved_def makro
+          reached (paths_answer t maps (by_style sub_namespaces.Bang r.local) (container_module holder) path nowhere own.1))
+
+      go : IsUnknown grown (container_of maps r.local holder) reaches.makro → ⊥
+      go (of_macro unknown) = unknown (meant reaches.meets.path reaches.makro reaches.meets.reaches.reached)
+      go (of_inner path inner reached unknown) = unknown (meant path inner reached)

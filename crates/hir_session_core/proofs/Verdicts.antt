@@ -1,12 +1,15 @@
 -- When is a session made, and a block set?
-use Rattle.std.proofs.Common.{◌≡◌, ℕ, ◌≤◌, false, nat_lt, List, length, map, Option, None, Some, option_map, Result, Ok, Err, OnOk, IfErr, ◌⊎◌, inl, inr, refl}
+use Rattle.std.proofs.Common.{◌≡◌, ℕ, ◌≤◌, false, nat_lt, List, [], ◌∷◌, length, map, Option, None, Some, option_map, Result, Ok, Err, OnOk, IfErr, ◌⊎◌, inl, inr, refl}
 use Rattle.std.proofs.Common.{sym, subst, arith}
 use Rattle.std.proofs.lemmas.List.{length-map}
 use Rattle.hir_session_state.specs.HirIds.declared.ids.Crate.{Crate}
+use Rattle.hir_session_state.specs.HirBase.ModPath.{Path}
 use Rattle.hir_session_state.specs.HirBase.declared.place.PlaceElement.{PlaceElement}
 use Rattle.std.specs.List.{list_any}
 use Rattle.hir_session_state.specs.HirMessages.CommandValue.{CrateInputValue}
-use Rattle.hir_session_state.specs.Refusals.{IsEditMemory, first_out_of_order, is_too_deep, is_too_long, verdict_of_new, verdict_with_steps}
+use Rattle.hir_session_state.specs.HirMessages.Edits.{inner_entry}
+use Rattle.hir_session_state.specs.Refusals.{IsEditMemory, first_out_of_order, is_too_deep, is_too_long, verdict_of_entry, verdict_of_inner, verdict_of_new}
+use Rattle.hir_session_state.specs.Refusals.{verdict_with_steps}
 use Rattle.hir_session_state.specs.SessionState.{max_crates}
 use Rattle.hir_session_state.specs.declared.error.EditError.{EditError}
 use Rattle.hir_session_state.specs.declared.error.EditError.TheVariants as edit_error
@@ -77,3 +80,10 @@ block_told steps source (Err (edit_error.DuplicateId kind id)) told accepted ref
   | inr right ↦ subst (λ (v : Result (Unit {0}) EditError). IsTold told (verdict_with_steps steps v)) (sym right)
       (told_right told (verdict_with_steps steps (Err (edit_error.DuplicateId kind id))) is)
 ]
+
+-- ---- an expansion that lists paths
+
+-- no path has nothing against it, as an empty unit hasn't
+pub inner_told : (paths : List Path) (error : Option (List ℕ)) → verdict_of_entry (inner_entry paths error) ≡ verdict_of_inner paths
+inner_told [] error = refl
+inner_told (path ∷ paths) error = refl

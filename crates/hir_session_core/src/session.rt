@@ -18,11 +18,14 @@ ghost use Rattle.std.specs.Prelude.{◌≡◌, map, length, None, Some, IfOk, On
 ghost use Rattle.hir_session_state.specs.HirIds.Refusal.{Gives};
 ghost use Rattle.hir_session_state.specs.HirMessages.CommandValue.{crate_input_view};
 ghost use Rattle.hir_session_state.specs.HirTables.SourcePlaces.{expansion_value};
-ghost use Rattle.hir_session_state.specs.HirMessages.Edits.{edit_view, entry_view};
+ghost use Rattle.hir_session_state.specs.HirMessages.Edits.{call_key_value, edit_view, entry_view, inner_entry};
 ghost use Rattle.hir_session_state.specs.Beginning.{Begins};
+ghost use Rattle.std.specs.List.{list_any};
+ghost use Rattle.hir_session_state.specs.HirItemTree.Limits.{is_long};
 ghost use Rattle.hir_session_state.specs.HirItemTree.Source.{source_view};
 ghost use Rattle.hir_session_state.specs.SourceEdits.{edited, of_expansion, of_file};
-ghost use Rattle.hir_session_state.specs.Refusals.{first_out_of_order, verdict_of_new, IsNewMemory, verdict_of_apply, verdict_of_expansion, verdict_of_removal, verdict_of_source, IsEditMemory};
+ghost use Rattle.hir_session_state.specs.Refusals.{first_out_of_order, verdict_of_new, IsNewMemory, verdict_of_apply, verdict_of_expansion, verdict_of_inner, verdict_of_removal, verdict_of_source, IsEditMemory};
+ghost use Rattle.hir_session_sources.specs.EditValues.{entry_value};
 ghost use Rattle.hir_session_state.specs.Changes.{Becomes, Applies};
 
 mod assoc_items;
@@ -37,27 +40,34 @@ use hir_base::file_path::FilePath;
 use hir_base::ids::Crate;
 use hir_base::limit::Limit;
 use hir_base::macro_kind::ExpansionKey;
+use hir_base::mod_path::ModPath;
+use hir_base::text::Text;
 use hir_item_tree::check::check;
 use hir_item_tree::source::Source;
 use hir_session_invalidation::inputs::Inputs;
 use hir_session_invalidation::invalidate::{Invalidation, invalidated};
 use hir_session_sources::beginning::{crates_of, first_late};
+use hir_session_sources::entry::Entry;
 use hir_session_sources::source_edit::SourceEdit;
 use hir_session_state::askers::Askers;
 use hir_session_state::error::{EditError, NewSessionError};
 use hir_session_state::front::{has_deep_condition, has_long_path};
 use hir_session_state::hir_messages::command::CrateInput;
-use hir_session_state::hir_messages::edit::{Edit, ExpansionEntry};
+use hir_session_state::hir_messages::edit::{CallKey, Edit, ExpansionEntry};
 use hir_session_state::kept::Kept;
 use hir_session_state::known_crates::names_known;
 use hir_session_state::nesting::nests_too_deep;
 use hir_tables::Tables;
+use hir_use_tree::limits::is_long_path;
 use std::alloc::{AllocError, Global};
 use std::collections::BTreeSet;
 use std::marker::Model;
 
 /// The most crates that a session has.
 pub const MAX_CRATES: usize = 10000;
+
+/// The most paths that a macro may ask to have resolved before a call is expanded.
+pub const MAX_INNER: usize = 1000;
 
 /// Crates and sources as they were handed in, and for each place that was resolved what its names stand for.
 pub struct Session {
@@ -108,6 +118,50 @@ fn check_source(alloc: Global, source: &Source) -> Result<(), EditError>
     }
     check(alloc, source)?;
     Ok(())
+}
+
+/// Whether one of some paths has too many segments.
+fn any_long(paths: &[ModPath]) -> bool
+    ensures value { result ≡ list_any is_long paths.now }
+{
+    for path in paths {
+        if is_long_path(path) {
+            return true;
+        }
+    }
+    false
+}
+
+/// Whether paths that a macro asks to have resolved first are within the limits.
+fn check_paths(paths: &Vec<ModPath>) -> Result<(), EditError>
+    ensures value { result ≡ verdict_of_inner paths.now.items }
+{
+    if any_long(paths) {
+        return Err(EditError::TooLarge(Limit::Path));
+    }
+    if paths.len() > MAX_INNER {
+        return Err(EditError::TooLarge(Limit::Inner));
+    }
+    Ok(())
+}
+
+/// What the expansion of a call depends on while no path is resolved.
+fn key_of_call(alloc: Global, key: CallKey) -> ExpansionKey
+    ensures value { expansion_value result ≡ call_key_value key }
+{
+    let CallKey {
+        caller,
+        called,
+        call,
+        input,
+    } = key;
+    ExpansionKey {
+        caller,
+        called,
+        call,
+        input,
+        reached: Vec::new(alloc),
+    }
 }
 
 impl Session {
@@ -193,9 +247,9 @@ impl Session {
         &mut self,
         alloc: Global,
         key: ExpansionKey,
-        entry: ExpansionEntry,
+        entry: Entry,
     ) -> Result<(), AllocError>
-        ensures ok { OnOk result (Becomes self.old (edited self.old.sources (of_expansion (expansion_value key) (Some (entry_view entry)))) self.new) }
+        ensures ok { OnOk result (Becomes self.old (edited self.old.sources (of_expansion (expansion_value key) (Some (entry_value entry)))) self.new) }
         ensures err { OnErr result (self.new ≡ self.old) }
     {
         let edit = SourceEdit::Expansion {
@@ -267,7 +321,7 @@ impl Session {
         key: ExpansionKey,
         entry: ExpansionEntry,
     ) -> Result<(), EditError>
-        ensures answer { Gives IsEditMemory result (verdict_of_expansion (length self.old.crates) (expansion_value key) (source_view entry.source)) }
+        ensures answer { Gives IsEditMemory result (verdict_of_expansion (length self.old.crates) (expansion_value key) (entry_view entry)) }
         ensures ok { OnOk result (Becomes self.old (edited self.old.sources (of_expansion (expansion_value key) (Some (entry_view entry)))) self.new) }
         ensures err { OnErr result (self.new ≡ self.old) }
     {
@@ -275,6 +329,29 @@ impl Session {
             return Err(EditError::UnknownCrate);
         }
         check_source(alloc, &entry.source)?;
+        self.keep_expansion(alloc, key, Entry::of_unit(entry))?;
+        Ok(())
+    }
+
+    /// Sets the paths that an eager macro asks to have resolved first, as the edit of that name does. Refused paths are
+    /// dropped.
+    pub fn set_inner_paths(
+        &mut self,
+        alloc: Global,
+        key: CallKey,
+        inner: Vec<ModPath>,
+        error: Option<Text>,
+    ) -> Result<(), EditError>
+        ensures answer { Gives IsEditMemory result (verdict_of_expansion (length self.old.crates) (call_key_value key) (inner_entry inner.items error)) }
+        ensures ok { OnOk result (Becomes self.old (edited self.old.sources (of_expansion (call_key_value key) (Some (inner_entry inner.items error)))) self.new) }
+        ensures err { OnErr result (self.new ≡ self.old) }
+    {
+        let key = key_of_call(alloc, key);
+        if !names_known(self.inputs.crates().len(), &key) {
+            return Err(EditError::UnknownCrate);
+        }
+        check_paths(&inner)?;
+        let entry = Entry::of_paths(alloc, inner, error)?;
         self.keep_expansion(alloc, key, entry)?;
         Ok(())
     }
@@ -304,6 +381,9 @@ impl Session {
             Edit::SetBlock { place, source } => self.set_block(alloc, place, source)?,
             Edit::RemoveBlock { place } => self.remove_block(alloc, &place)?,
             Edit::SetExpansion { key, entry } => self.set_expansion(alloc, key, entry)?,
+            Edit::SetInnerPaths { key, inner, error } => {
+                self.set_inner_paths(alloc, key, inner, error)?
+            }
             Edit::RemoveExpansion { key } => self.remove_expansion(alloc, &key)?,
             Edit::SetCrate {
                 krate,

@@ -3,7 +3,7 @@ ghost use Rattle.std.specs.Prelude.{◌≡◌, ◌<◌, [], length, Err, IfOk, O
 ghost use Rattle.hir_session_state.specs.HirItemTree.Source.{source_view};
 ghost use Rattle.hir_session_state.specs.HirTables.SourcePlaces.{expansion_value, file, source_value};
 ghost use Rattle.hir_session_state.specs.HirTables.Tables.{KeepsTables};
-ghost use Rattle.hir_session_state.specs.HirMessages.Edits.{entry_view};
+ghost use Rattle.hir_session_sources.specs.EditValues.{entry_value};
 ghost use Rattle.hir_session_state.specs.HirNameres.World.{finished_in};
 ghost use Rattle.hir_session_state.specs.HirCollectorRules.Calls.{AreCallsPlaced};
 ghost use Rattle.hir_session_state.specs.HirCollectorRules.Derivation.{IsOverlong, collected_view};
@@ -29,13 +29,13 @@ use hir_base::place::BlockPlace;
 use hir_item_tree::source::Source;
 use hir_item_tree::source_tree::SourceTree;
 use hir_session_sources::crates::Crates;
+use hir_session_sources::entry::Entry;
 use hir_session_sources::source_table::SourceTable;
 use hir_session_sources::source_trees::{CrateTrees, SourceTrees, source_tree};
 use hir_session_state::hir_collector_rules::collected::Collected;
 use hir_session_state::hir_collector_rules::source_database::Config;
 use hir_session_state::hir_collector_rules::start::CollectError;
 use hir_session_state::hir_def_map::world::World;
-use hir_session_state::hir_messages::edit::ExpansionEntry;
 use hir_tables::{SourcePlace, Tables};
 use std::alloc::{AllocError, Global};
 use std::marker::Model;
@@ -182,12 +182,8 @@ impl Inputs {
     }
 
     /// Sets an expansion. What it had under the crate that calls isn't kept.
-    pub fn set_expansion(
-        &mut self,
-        key: ExpansionKey,
-        entry: ExpansionEntry,
-    ) -> Result<(), AllocError>
-        ensures ok { OnOk result (self.new ≡ record self.old { sources = record self.old.sources { entries = with_entry self.old.sources.entries (expansion_value key) (entry_view entry) } }) }
+    pub fn set_expansion(&mut self, key: ExpansionKey, entry: Entry) -> Result<(), AllocError>
+        ensures ok { OnOk result (self.new ≡ record self.old { sources = record self.old.sources { entries = with_entry self.old.sources.entries (expansion_value key) (entry_value entry) } }) }
         ensures err { OnErr result (self.new ≡ self.old) }
     {
         self.trees.remove(&key);

@@ -251,15 +251,15 @@ same_but_bodies law sides s path was source is_was alike = same_looks s (of_file
     ap (λ (t : SourceTreeValue). seen_at t key) (same_tree law sides s.crates (file path) was source alike k ∙ ap
     (λ (o : Option SourceValue). tree_under s.crates k (file path) o) (sym is_was))) tt
 
--- so does an expansion, with the same error
+-- so does an expansion, with the same error and the same inner paths
 same_but_expansion_bodies : BodyTextsLeaveTheTree → BodyTextsLeaveTheSides → (s : SessionState) (key : ExpansionValue) (was entry : EntryValue)
     → entry_at s.sources.entries key ≡ Some was
-    → was.error ≡ entry.error → source_without_bodies was.source ≡ source_without_bodies entry.source
+    → was.error ≡ entry.error → was.inner ≡ entry.inner → source_without_bodies was.source ≡ source_without_bodies entry.source
     → (k : Key) → look s.tables (workspace_in s.crates (edited s.sources (of_expansion key (Some entry)))) no_maps k ≡ look s.tables (workspace_of s) no_maps k
-same_but_expansion_bodies law sides s key was entry is_was error alike = same_looks s (of_expansion key (Some entry))
+same_but_expansion_bodies law sides s key was entry is_was error inner alike = same_looks s (of_expansion key (Some entry))
     (λ n k. ap (λ (t : SourceTreeValue). seen_at t k) (same_tree law sides s.crates (expansion key) was.source entry.source alike n
     ∙ ap (λ (o : Option EntryValue). tree_under s.crates n (expansion key) (source_in_entry o)) (sym is_was)))
-    (ap (λ (o : Option EntryValue). look_of o) is_was ∙ (λ i. record { present = true; error = error i; inner = [] }))
+    (ap (λ (o : Option EntryValue). look_of o) is_was ∙ (λ i. record { present = true; error = error i; inner = inner i }))
 
 -- a file that is removed where none is leaves each key as it was
 same_without : (s : SessionState) (path : List ℕ) → file_at s.sources.files path ≡ None
@@ -283,12 +283,12 @@ body_edits_leave_answers law sides old new path was source sound is_was alike is
     unaltered_answers sound is (λ id r key kept has. same_but_bodies law sides old path was source is_was alike key) (λ b. refl)
 
 pub expansion_body_edits_mark_nothing : BodyTextsLeaveTheTree → BodyTextsLeaveTheSides → ExpansionBodyEditsMarkNothing
-expansion_body_edits_mark_nothing law sides old new key was entry sound is_was error alike is =
-    unaltered_marks sound is (λ id r k kept has. same_but_expansion_bodies law sides old key was entry is_was error alike k)
+expansion_body_edits_mark_nothing law sides old new key was entry sound is_was error inner alike is =
+    unaltered_marks sound is (λ id r k kept has. same_but_expansion_bodies law sides old key was entry is_was error inner alike k)
 
 pub expansion_body_edits_leave_answers : BodyTextsLeaveTheTree → BodyTextsLeaveTheSides → ExpansionBodyEditsLeaveAnswers
-expansion_body_edits_leave_answers law sides old new key was entry sound is_was error alike is =
-    unaltered_answers sound is (λ id r k kept has. same_but_expansion_bodies law sides old key was entry is_was error alike k) (λ b. refl)
+expansion_body_edits_leave_answers law sides old new key was entry sound is_was error inner alike is =
+    unaltered_answers sound is (λ id r k kept has. same_but_expansion_bodies law sides old key was entry is_was error inner alike k) (λ b. refl)
 
 pub remove_absent_file_marks_nothing : RemoveAbsentFileMarksNothing
 remove_absent_file_marks_nothing old new path sound absent is = unaltered_marks sound is (λ id r key kept has. same_without old path absent key)

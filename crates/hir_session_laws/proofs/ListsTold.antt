@@ -2,7 +2,7 @@
 use Rattle.std.specs.List.{cons_option, filter_map}
 use Rattle.std.specs.Option.{option_and_then}
 use Rattle.std.proofs.Common.{◌≡◌, ◌∙◌, inl, inr, ap, sym, subst, refl, ℕ, ◌+◌, Bool, true, false, is_some, List, [], ◌∷◌, ◌++◌, map, Option, Some, None}
-use Rattle.std.proofs.Common.{IsSome, option_map, slice_get}
+use Rattle.std.proofs.Common.{◌<◌, IsSome, option_map, slice_get}
 use Rattle.std.specs.Prelude.{unwrap_or, cond, is_none, not, ◌||◌, Ok, Err}
 use Rattle.std.proofs.Common.{zero, suc, Contains}
 use mathlib.Core.Bool.{true≢false}
@@ -54,16 +54,17 @@ use Rattle.hir_session_machine.specs.HirCollectorRules.Keys.{IsMeant, environmen
 use Rattle.hir_session_machine.specs.HirCollectorRules.Workspace.{Workspace}
 use Rattle.hir_session_machine.specs.HirCollectorRules.declared.source_database.Key.TheVariants as keys
 use Rattle.hir_session_machine.specs.HirDefCollectorLaws.Sources.{RunsBindFromSources, unnumbered}
-use Rattle.hir_assoc_items.specs.AssocItems.{Becomes, CallBecomes, ContainerValue, FlattensTo, IsCall, IsNumberOfCall, ListingValue, ReachesUnknown, call}
-use Rattle.hir_assoc_items.specs.AssocItems.{call_error, call_loc, call_source, container_of, crate_of, definition_by, error_told, expanded, expansion_by}
-use Rattle.hir_assoc_items.specs.AssocItems.{first, followed_by, item_loc, items_written, kept_for, left_out, listed, listed_by, loc_key, loc_tree, module_of}
-use Rattle.hir_assoc_items.specs.AssocItems.{next, none, one_call, too_deep, unreached}
+use Rattle.hir_assoc_items.specs.AssocItems.{Becomes, CallBecomes, ContainerValue, FlattensTo, IsCall, IsNumberOfCall, ListingValue, Meets, ReachesUnknown}
+use Rattle.hir_assoc_items.specs.AssocItems.{call, call_error, call_loc, call_source, container_of, crate_of, definition_by, error_told, expanded, expansion_by}
+use Rattle.hir_assoc_items.specs.AssocItems.{first, first_missing, followed_by, inner_paths, item_loc, items_written, kept_for, left_out, limit_of, listed}
+use Rattle.hir_assoc_items.specs.AssocItems.{listed_by, loc_key, loc_tree, macro_called, module_of, next, none, of_inner, of_macro, one_call, too_deep}
+use Rattle.hir_assoc_items.specs.AssocItems.{unreached, waits}
 use Rattle.hir_assoc_items.specs.Depth.{and_expansion, expansions_around, expansions_within, most_around}
 use Rattle.hir_assoc_items.specs.Steps.{AreMeant}
 use Rattle.hir_assoc_items.specs.Written.{WrittenValue, item_node, top_items, written}
 use Rattle.hir_assoc_items.specs.declared.written.AssocKind.{AssocKind}
 use Rattle.hir_assoc_items.specs.declared.written.AssocKind.TheVariants as kinds
-use Rattle.hir_assoc_items.proofs.Growth.{expansion_stays, source_in_stays, there_still}
+use Rattle.hir_assoc_items.proofs.Growth.{AreKnown, expansion_stays, paths_stay, source_in_stays, there_still}
 use Rattle.hir_assoc_items.proofs.Kept.{there_where_kept}
 use Rattle.hir_assoc_items.proofs.Taking.{meant_both, written_meant}
 use Rattle.hir_assoc_items.proofs.Unique.{unique}
@@ -162,7 +163,8 @@ inside_meant tables w c i _ _ (call path ahead inside is becomes) = go ahead ins
     go : (ahead : ListingValue) (inside : List WrittenValue) → CallBecomes (environment tables w) c i path ahead inside → AreMeant tables inside
     go _ _ (too_deep deep) = tt
     go _ _ (unreached shallow nowhere) = tt
-    go _ _ (expanded makro id shallow reached number) =
+    go _ _ (waits makro inner shallow reached missing) = tt
+    go _ _ (expanded makro id shallow reached all number) =
         written_meant tables (call_tree id) (number_means tables w c (item_node i) makro id number) (i.level + 1)
         (top_items (call_source (environment tables w) c id).tree.items)
 
@@ -244,7 +246,8 @@ module _ (tables : TablesValue) (placed : AreCallsPlaced tables) (w : Workspace)
         → IsListedWhole ahead
     call_whole path _ _ (too_deep deep) = record { items = tt; calls = tt; diagnostics = tt }
     call_whole path _ _ (unreached shallow nowhere) = record { items = tt; calls = tt; diagnostics = ((node_there, refl), tt) }
-    call_whole path _ _ (expanded makro id shallow reached number) = record {
+    call_whole path _ _ (waits makro inner shallow reached missing) = record { items = tt; calls = tt; diagnostics = ((node_there, refl), tt) }
+    call_whole path _ _ (expanded makro id shallow reached all number) = record {
       items = tt;
       calls = (mapped_some _ (node_source tables (item_node i)) ∙ node_there, tt);
       diagnostics = errors_about path (call_error (environment tables w) c (item_node i) makro);
@@ -274,19 +277,34 @@ module _ (few more : TablesValue) (keeps : KeepsTables few more) (w : Workspace)
       (λ means. means) (λ not. absurd (h (λ means. clash means not)))
   known_means (macros.ProcMacroId id) h = tt
 
+  -- a call of an item reaches it
+  meets_macro : (i : WrittenValue) (path : Path) → IsCall i path → (makro : MacroId) → i.level < limit_of c → macro_called c path ≡ Some makro
+      → Meets (environment few w) c (i ∷ []) i makro
+  meets_macro i path is makro shallow reached =
+      record { before = 0; comes = first i []; path = path; reaches = record { is = is; shallow = shallow; reached = reached } }
+
+  -- so its source has a number
+  macro_means : (i : WrittenValue) (path : Path) → IsCall i path → (makro : MacroId) → i.level < limit_of c → macro_called c path ≡ Some makro → IsMeant few makro
+  macro_means i path is makro shallow reached = known_means makro (λ unknown. known (i ∷ [])
+      (record { item = i; makro = makro; meets = meets_macro i path is makro shallow reached; unknown = of_macro unknown }))
+
+  -- and so have those of the macros that it asks for first
+  inner_mean : (i : WrittenValue) (path : Path) → IsCall i path → (makro : MacroId) → i.level < limit_of c → macro_called c path ≡ Some makro
+      → AreKnown few c (inner_paths (environment few w) c (item_node i) makro)
+  inner_mean i path is makro shallow reached asked inner among reaches = known_means inner (λ unknown. known (i ∷ [])
+      (record { item = i; makro = makro; meets = meets_macro i path is makro shallow reached; unknown = of_inner asked inner reaches unknown }))
+
   call_still : (i : WrittenValue) → IsSome (source_of_tree few i.tree) → (path : Path) → IsCall i path → (ahead : ListingValue) (inside : List WrittenValue)
       → CallBecomes (environment few w) c i path ahead inside → CallBecomes (environment more w) c i path ahead inside
   call_still i means path is _ _ (too_deep deep) = too_deep deep
   call_still i means path is _ _ (unreached shallow nowhere) = unreached shallow nowhere
-  call_still i means path is _ _ (expanded makro id shallow reached number) =
-      let of_macro : IsMeant few makro = known_means makro (λ unknown. known (i ∷ []) (record {
-        item = i;
-        makro = makro;
-        meets = record { before = 0; comes = first i []; path = path; reaches = record { is = is; shallow = shallow; reached = reached } };
-        unknown = unknown;
-      })) in
+  call_still i means path is _ _ (waits makro inner shallow reached missing) =
+      waits makro inner shallow reached
+      (ap (first_missing c) (paths_stay few more keeps w c (item_node i) makro means (macro_means i path is makro shallow reached)) ∙ missing)
+  call_still i means path is _ _ (expanded makro id shallow reached all number) =
+      let meant : IsMeant few makro = macro_means i path is makro shallow reached in
       let same : expansion_by (environment more w) c (item_node i) makro ≡ expansion_by (environment few w) c (item_node i) makro =
-      expansion_stays few more keeps w c (item_node i) makro means of_macro in
+      expansion_stays few more keeps w c (item_node i) makro means meant (inner_mean i path is makro shallow reached) in
       let numbered : IsNumberOfCall (environment more w) c (item_node i) makro id = record {
         entry = number.entry;
         depends = keeps.entries number.entry.0 (expansion_by (environment few w) c (item_node i) makro) number.depends
@@ -302,7 +320,7 @@ module _ (few more : TablesValue) (keeps : KeepsTables few more) (w : Workspace)
       (subst (λ (t : SourceTreeValue). CallBecomes (environment more w) c i path
       (one_call c (item_node i) id path (call_error (environment more w) c (item_node i) makro))
       (written (call_tree id) (i.level + 1) (top_items t.tree.items))) source
-      (expanded makro id shallow reached numbered))
+      (expanded makro id shallow reached (ap (first_missing c) (paths_stay few more keeps w c (item_node i) makro means meant) ∙ all) numbered))
 
   becomes_still : (i : WrittenValue) → IsSome (source_of_tree few i.tree) → (ahead : ListingValue) (inside : List WrittenValue)
       → Becomes (environment few w) c i ahead inside → Becomes (environment more w) c i ahead inside

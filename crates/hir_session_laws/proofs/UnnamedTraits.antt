@@ -70,7 +70,7 @@ use Rattle.hir_session_machine.specs.HirCollectorRules.Keys.{Environment, enviro
 use Rattle.hir_session_machine.specs.HirCollectorRules.Macros.{textual_at}
 use Rattle.hir_session_machine.specs.HirCollectorRules.Start.{Beginning, begin_of, holders_by, krate_of, read_by, root_key, start_of, tree_key}
 use Rattle.hir_session_machine.specs.HirCollectorRules.State.{Core, State, import_state}
-use Rattle.hir_session_machine.specs.HirCollectorRules.Steps.{Rule, lists_derives, exports_macro, rests, expands_call, drops_call, drops_reached}
+use Rattle.hir_session_machine.specs.HirCollectorRules.Steps.{Rule, lists_derives, exports_macro, rests, expands_call, meets_macro, drops_call, drops_reached}
 use Rattle.hir_session_machine.specs.HirCollectorRules.Steps.{derives_builtin, falls_back, defines_rules, defines_macro, declares_item, declares_enum}
 use Rattle.hir_session_machine.specs.HirCollectorRules.Steps.{opens_module, opens_file, misses_file, reaches_imports, reaches_crate, resolves_imports, May}
 use Rattle.hir_session_machine.specs.HirCollectorRules.Steps.{Steps, acts, asking, more, none}
@@ -417,6 +417,7 @@ module _ (t : SourceTest) where
         (tt, (tt, (tt, (tt, (tt, fine_reporting IsChangeClear _ _ expander (λ at. tt) _)))))
     clear_rule (lists_derives v at a adt paths call rest) may = (tt, (tt, (tt, tt)))
     clear_rule (exports_macro site head name d e rest) may = (tt, (tt, (tt, (tt, (tt, (tt, (tt, tt)))))))
+    clear_rule (meets_macro i d makro x) may = (tt, tt)
     clear_rule rests may = (tt, tt)
     clear_rule (expands_call i d makro x) may = (tt, (tt, (tt, fine_expanding IsChangeClear _ (λ at helper. tt) _ _ d (error_of x.there) (λ at text. tt) _)))
     clear_rule (drops_call i d) may = (tt, tt)
@@ -472,7 +473,7 @@ module _ (t : SourceTest) where
       let first : IsSourced t begun = first_sourced t (read_by w all from.start) (subst (HoldsNowhere t) (sym same) nowhere) tables w holders from
       (subst (λ (x : Maps). BeginsClear t x from.start from.tree) (sym same) begun_so) root in
       let m : Map = ended e.last.core in
-      let reports : List DefDiagnostic = m.diagnostics ++ leftover_reports e.last.core in
+      let reports : List DefDiagnostic = m.diagnostics ++ leftover_reports (read_by w all from.start) e.last.core in
       let reported : Map = record m { diagnostics = reports } in
       let above : ShowsThere t finished reported = subst (λ (x : Map). ShowsThere t finished x) e.map_is clear.shown in
       let grows : Grows m reported = let same_map : Grows m m = Grows-same m

@@ -37,7 +37,7 @@ use Rattle.hir_session_machine.specs.HirCollectorRules.Keys.{Environment, enviro
 use Rattle.hir_session_machine.specs.HirCollectorRules.Macros.{textual_at}
 use Rattle.hir_session_machine.specs.HirCollectorRules.Start.{Beginning, begin_of, read_by}
 use Rattle.hir_session_machine.specs.HirCollectorRules.State.{Core, State, behind, import_state}
-use Rattle.hir_session_machine.specs.HirCollectorRules.Steps.{Rule, lists_derives, exports_macro, rests, expands_call, drops_call, drops_reached}
+use Rattle.hir_session_machine.specs.HirCollectorRules.Steps.{Rule, lists_derives, exports_macro, rests, expands_call, meets_macro, drops_call, drops_reached}
 use Rattle.hir_session_machine.specs.HirCollectorRules.Steps.{derives_builtin, falls_back, defines_rules, defines_macro, declares_item, declares_enum}
 use Rattle.hir_session_machine.specs.HirCollectorRules.Steps.{lists_impl, opens_module, opens_file, misses_file, reaches_imports, reaches_crate}
 use Rattle.hir_session_machine.specs.HirCollectorRules.Steps.{resolves_imports, May, Steps, acts, asking, more, none, visit}
@@ -207,6 +207,7 @@ module _ (t : SourceTest) (own : MapId) where
         (tt, (tt, (tt, (tt, (tt, fine_reporting IsFineChange _ _ expander (λ at. tt) _)))))
     own_rule (lists_derives v at a adt paths call rest) may = (tt, (tt, (tt, tt)))
     own_rule (exports_macro site head name d e rest) may = (tt, (tt, (tt, (tt, (tt, (tt, (tt, tt)))))))
+    own_rule (meets_macro i d makro x) may = (tt, tt)
     own_rule rests may = (tt, tt)
     own_rule (expands_call i d makro x) may = (tt, (tt, (tt, fine_expanding IsFineChange _ (λ at helper. tt) _ _ d (error_of x.there) (λ at text. tt) _)))
     own_rule (drops_call i d) may = (tt, tt)

@@ -148,17 +148,20 @@ BodyEditsLeaveAnswers = (old new : SessionState) (path : List ℕ) (was source :
     → file_at old.sources.files path ≡ Some was → source_without_bodies was ≡ source_without_bodies source → Applies old (set_file path source) new
     → AnswersAlike old new
 
--- an expansion that was there is set to one with the same error, and a source that differs in the texts of bodies alone: no mark changes
+-- an expansion that was there is set to one with the same error and the same inner paths, and a source that differs in the texts of bodies alone: no mark
+-- changes
 abbrev pub ExpansionBodyEditsMarkNothing : Type 0
 ExpansionBodyEditsMarkNothing = (old new : SessionState) (key : ExpansionValue) (was entry : EntryValue) → IsSound old
-    → entry_at old.sources.entries key ≡ Some was → was.error ≡ entry.error → source_without_bodies was.source ≡ source_without_bodies entry.source
+    → entry_at old.sources.entries key ≡ Some was → was.error ≡ entry.error → was.inner ≡ entry.inner
+    → source_without_bodies was.source ≡ source_without_bodies entry.source
     → Applies old (set_expansion key entry) new
     → (id : MapId) → is_marked new id ≡ is_marked old id
 
 -- and no answer
 abbrev pub ExpansionBodyEditsLeaveAnswers : Type 0
 ExpansionBodyEditsLeaveAnswers = (old new : SessionState) (key : ExpansionValue) (was entry : EntryValue) → IsSound old
-    → entry_at old.sources.entries key ≡ Some was → was.error ≡ entry.error → source_without_bodies was.source ≡ source_without_bodies entry.source
+    → entry_at old.sources.entries key ≡ Some was → was.error ≡ entry.error → was.inner ≡ entry.inner
+    → source_without_bodies was.source ≡ source_without_bodies entry.source
     → Applies old (set_expansion key entry) new
     → AnswersAlike old new
 

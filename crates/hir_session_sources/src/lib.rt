@@ -8,6 +8,7 @@ mod copied_key;
 pub mod crate_info;
 pub mod crates;
 mod entries;
+pub mod entry;
 pub mod files;
 pub mod same_config;
 pub mod seen_entry;

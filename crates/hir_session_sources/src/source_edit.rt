@@ -5,12 +5,12 @@ ghost use Rattle.hir_session_state.specs.HirTables.SourcePlaces.{source_value};
 ghost use Rattle.hir_session_state.specs.SourceEdits.{place_of, source_by};
 ghost use Rattle.hir_session_sources.specs.EditValues.{edit_value};
 
+use crate::entry::Entry;
 use crate::seen_entry::source_in;
 use hir_base::file_path::FilePath;
 use hir_base::macro_kind::ExpansionKey;
 use hir_base::place::BlockPlace;
 use hir_item_tree::source::Source;
-use hir_session_state::hir_messages::edit::ExpansionEntry;
 use hir_tables::SourcePlace;
 
 /// An edit of a source: what it gets, or nothing where it is removed.
@@ -26,7 +26,7 @@ pub enum SourceEdit<'a> {
     },
     Expansion {
         key: &'a ExpansionKey,
-        new: Option<&'a ExpansionEntry>,
+        new: Option<&'a Entry>,
     },
 }
 

@@ -2,7 +2,7 @@
 ghost use Rattle.std.specs.Prelude.{◌≡◌, [], None, Some, is_some, IfOk, OnOk, OnErr, option_map};
 ghost use Rattle.hir_session_state.specs.HirItemTree.Source.{source_view};
 ghost use Rattle.hir_session_state.specs.HirTables.SourcePlaces.{expansion_value, source_value};
-ghost use Rattle.hir_session_state.specs.HirMessages.Edits.{entry_view};
+ghost use Rattle.hir_session_sources.specs.EditValues.{entry_value};
 ghost use Rattle.hir_session_state.specs.Blocks.{blocks_with, place_of_block};
 ghost use Rattle.hir_session_state.specs.Entries.{entry_at, with_entry, without_entry};
 ghost use Rattle.hir_session_state.specs.Files.{with_file, without_file};
@@ -10,13 +10,13 @@ ghost use Rattle.hir_session_state.specs.SourceTable.{source_at};
 
 use crate::blocks::Blocks;
 use crate::entries::Entries;
+use crate::entry::Entry;
 use crate::files::Files;
 use crate::seen_entry::source_in;
 use hir_base::file_path::FilePath;
 use hir_base::macro_kind::ExpansionKey;
 use hir_base::place::BlockPlace;
 use hir_item_tree::source::Source;
-use hir_session_state::hir_messages::edit::ExpansionEntry;
 use hir_tables::SourcePlace;
 use std::alloc::{AllocError, Global};
 use std::marker::Model;
@@ -86,8 +86,8 @@ impl SourceTable {
     }
 
     /// An expansion, if it is there.
-    pub fn entry(&self, key: &ExpansionKey) -> Option<&ExpansionEntry>
-        ensures value { option_map (λ e. entry_view e.now) result ≡ entry_at self.now.entries (expansion_value key.now) }
+    pub fn entry(&self, key: &ExpansionKey) -> Option<&Entry>
+        ensures value { option_map (λ e. entry_value e.now) result ≡ entry_at self.now.entries (expansion_value key.now) }
     {
         self.entries.get(key)
     }
@@ -124,13 +124,9 @@ impl SourceTable {
     }
 
     /// Sets an expansion.
-    pub fn set_expansion(
-        &mut self,
-        key: ExpansionKey,
-        entry: ExpansionEntry,
-    ) -> Result<(), AllocError>
+    pub fn set_expansion(&mut self, key: ExpansionKey, entry: Entry) -> Result<(), AllocError>
         ensures ok { OnOk result (self.new
-            ≡ record self.old { entries = with_entry self.old.entries (expansion_value key) (entry_view entry) }) }
+            ≡ record self.old { entries = with_entry self.old.entries (expansion_value key) (entry_value entry) }) }
         ensures err { OnErr result (self.new ≡ self.old) }
     {
         self.entries.set(key, entry)

@@ -1,5 +1,5 @@
 -- What a run asks of sources, texts of macros aside, it asks of its own crate's.
-use Rattle.std.proofs.Common.{◌≡◌, ◌∙◌, ◌⊎◌, inl, inr, zero, suc, ◌<◌, List, [], ◌∷◌, ◌++◌, Option, Some, None, refl, sym, ap, subst, arith, Contains}
+use Rattle.std.proofs.Common.{◌≡◌, ◌∙◌, ◌⊎◌, inl, inr, ℕ, zero, suc, ◌<◌, List, [], ◌∷◌, ◌++◌, Option, Some, None, refl, sym, ap, subst, arith, Contains}
 use Rattle.std.proofs.lemmas.List.Elements.{Contains-append_cases}
 use Rattle.hir_collector_rules.specs.HirIds.declared.ids.Crate.{Crate}
 use Rattle.hir_collector_rules.specs.HirIds.declared.edition.Edition.{Edition}
@@ -8,13 +8,13 @@ use Rattle.hir_collector_rules.specs.HirIds.declared.macro_kind.MacroId.TheVaria
 use Rattle.hir_collector_rules.specs.HirIds.declared.ids.ModuleId.{ModuleId}
 use Rattle.hir_collector_rules.specs.HirDefMapRules.Overlay.{Maps}
 use Rattle.hir_collector_rules.specs.HirTables.Tables.{TablesValue}
-use Rattle.hir_collector_rules.specs.Calls.{Expanding}
+use Rattle.hir_collector_rules.specs.Calls.{Expanding, Grown, InnerMacro, entry_readings, expansion_readings, grown_readings, inner_readings, text_readings}
 use Rattle.hir_collector_rules.specs.Derivation.{CollectedValue, Ends}
 use Rattle.hir_collector_rules.specs.Keys.{Environment, dependency_keys, environment, keys_behind}
-use Rattle.hir_collector_rules.specs.ModuleFiles.{LookedAt, Tried, file_readings, tried_in}
+use Rattle.hir_collector_rules.specs.ModuleFiles.{LookedAt, Reading, Tried, file_readings, tried_in}
 use Rattle.hir_collector_rules.specs.Start.{Beginning, begin_of, held_keys, holder_keys, holders_by, krate_of, read_by}
 use Rattle.hir_collector_rules.specs.State.{State}
-use Rattle.hir_collector_rules.specs.Steps.{Rule, declares_enum, opens_file, drops_file, misses_file, expands_call, keys_read, reads, Step, Steps, none, more}
+use Rattle.hir_collector_rules.specs.Steps.{Rule, declares_enum, opens_file, drops_file, misses_file, expands_call, meets_macro, keys_read, reads, Step, Steps, none, more}
 use Rattle.hir_collector_rules.specs.Workspace.{Workspace, transitive_dependencies_in}
 use Rattle.hir_collector_rules.specs.declared.macro_directive.MacroDirective.{MacroDirective}
 use Rattle.hir_collector_rules.specs.declared.source_database.Key.{Key}
@@ -71,6 +71,28 @@ of_held : (own : Crate) (start : Start) (holders : List ModuleId) → AreOwn own
 of_held own (starts.Crate krate root) holders = tt
 of_held own (starts.Block krate block holder at) holders = (inl refl, of_holders own holders)
 
+-- ---- calls
+
+in_both : (own : Crate) (xs ys : List Reading) → AreOwn own (keys_read xs) → AreOwn own (keys_read ys) → AreOwn own (keys_read (xs ++ ys))
+in_both own [] ys f g = g
+in_both own (x ∷ xs) ys f g = (f.0, in_both own xs ys f.1 g)
+
+of_text : (own : Crate) (makro : MacroId) (text : Option (List ℕ)) → AreOwn own (keys_read (text_readings makro text))
+of_text own (macros.Macro2Id id) text = (inl refl, tt)
+of_text own (macros.MacroRulesId id) text = (inl refl, tt)
+of_text own (macros.ProcMacroId id) text = tt
+
+of_inner : (own : Crate) (inner : List InnerMacro) → AreOwn own (keys_read (inner_readings inner))
+of_inner own [] = tt
+of_inner own (i ∷ is) = in_both own (text_readings i.makro i.text) (inner_readings is) (of_text own i.makro i.text) (of_inner own is)
+
+of_grown : (own : Crate) (grown : Option Grown) → AreOwn own (keys_read (grown_readings grown))
+of_grown own None = tt
+of_grown own (Some g) = (inl refl, of_inner own g.macros)
+
+of_expansion : (own : Crate) (d : MacroDirective) (x : Expanding) → AreOwn own (keys_read (expansion_readings own d x))
+of_expansion own d x = (inr refl, in_both own (grown_readings x.grown) (entry_readings own x) (of_grown own x.grown) (inl refl, (inr refl, tt)))
+
 -- ---- steps
 
 reads_own : (s : State) (r : Rule) → AreOwn s.core.map.id.krate (keys_read (reads s r))
@@ -78,12 +100,11 @@ reads_own s (declares_enum site head name found rest) = (inr refl, tt)
 reads_own s (opens_file site head name search f rest) = of_files s.core.map.id.krate s.core.map.crate_data.edition (tried_in search)
 reads_own s (drops_file site head name search report rest) = of_files s.core.map.id.krate s.core.map.crate_data.edition (tried_in search)
 reads_own s (misses_file site head name search report rest) = of_files s.core.map.id.krate s.core.map.crate_data.edition (tried_in search)
-reads_own s (expands_call i d makro x) = by_macro makro
-  where
-    by_macro : (m : MacroId) → AreOwn s.core.map.id.krate (keys_read (reads s (expands_call i d m x)))
-    by_macro (macros.Macro2Id id) = (inl refl, (inr refl, (inl refl, (inr refl, tt))))
-    by_macro (macros.MacroRulesId id) = (inl refl, (inr refl, (inl refl, (inr refl, tt))))
-    by_macro (macros.ProcMacroId id) = (inr refl, (inl refl, (inr refl, tt)))
+reads_own s (expands_call i d makro x) =
+    in_both s.core.map.id.krate (text_readings makro x.text) (expansion_readings s.core.map.id.krate d x) (of_text s.core.map.id.krate makro x.text)
+    (of_expansion s.core.map.id.krate d x)
+reads_own s (meets_macro i d makro x) =
+    in_both s.core.map.id.krate (text_readings makro x.text) _ (of_text s.core.map.id.krate makro x.text) (inr refl, (inl refl, tt))
 reads_own s other = tt
 
 -- a run asked so

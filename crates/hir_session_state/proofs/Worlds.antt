@@ -17,10 +17,12 @@ use Rattle.hir_collector_rules.specs.HirDefMapRules.WellFormed.{HasNoDanglingExt
 use Rattle.hir_collector_rules.specs.HirDefMapRules.Overlay.{Maps, Placed, holders_of, holders_under, overlay, no_maps}
 use Rattle.hir_collector_rules.specs.HirDefMapRules.State.{crate_map}
 use Rattle.hir_collector_rules.specs.Causes.{HasCause}
-use Rattle.hir_collector_rules.specs.Causes.HasCause.{root_tree, of_holder, declared_enum, candidate, of_call, dependency, handed_in}
-use Rattle.hir_collector_rules.specs.Calls.{Expanding, call_key, expansion_readings, text_readings}
+use Rattle.hir_collector_rules.specs.Causes.HasCause.{root_tree, of_holder, declared_enum, candidate, of_call, of_eager, dependency, handed_in}
+use Rattle.hir_collector_rules.specs.Calls.{EagerLook, Expanding, Grown, InnerMacro, eager_readings, entry_readings, expansion_readings, grown_readings}
+use Rattle.hir_collector_rules.specs.Calls.{inner_readings, text_readings}
 use Rattle.hir_collector_rules.specs.Derivation.{Ends}
 use Rattle.hir_collector_rules.specs.Keys.{AgreeOn, look, map_key, of_map}
+use Rattle.hir_collector_rules.specs.ModuleFiles.{Reading}
 use Rattle.hir_collector_rules.specs.Start.{Beginning, held_keys, holder_keys, holders_by, krate_of}
 use Rattle.hir_collector_rules.specs.State.{State}
 use Rattle.hir_collector_rules.specs.Steps.{keys_read}
@@ -82,28 +84,55 @@ AgreeOn-trans a b = record {
 pub AgreeOn-refl : {tables : TablesValue} {keys : List Key} {w : Workspace} {f : Maps} → AgreeOn tables keys w f w f
 AgreeOn-refl = record { crates = refl; same = λ key c. refl }
 
--- no call asks for a map
-one_of_three : {A : Type 0} (a b c d : A) → Contains (a ∷ b ∷ c ∷ []) d → (a ≢ d) → (b ≢ d) → (c ≢ d) → ⊥
-one_of_three a b c d (zero, within, is) f g h = f is
-one_of_three a b c d (suc zero, within, is) f g h = g is
-one_of_three a b c d (suc (suc zero), within, is) f g h = h is
-one_of_three a b c d (suc (suc (suc n)), within, is) f g h = let past : suc (suc (suc n)) < 3 = within in omega arith
+-- a key of sources or of expansions
+abbrev IsOfSources : Key → Type 0
+IsOfSources (keys.Tree key) = Unit {0}
+IsOfSources (keys.Variants id) = Unit {0}
+IsOfSources (keys.Text id) = Unit {0}
+IsOfSources (keys.Input krate ast) = Unit {0}
+IsOfSources (keys.Expansion id) = Unit {0}
+IsOfSources (keys.Map id) = ⊥
+IsOfSources (keys.Config krate) = ⊥
 
-one_of_four : {A : Type 0} (a b c d e : A) → Contains (a ∷ b ∷ c ∷ d ∷ []) e → (a ≢ e) → (b ≢ e) → (c ≢ e) → (d ≢ e) → ⊥
-one_of_four a b c d e (zero, within, is) f g h k = f is
-one_of_four a b c d e (suc n, within, is) f g h k = one_of_three b c d e (n, (let past : suc n < 4 = within in omega arith), is) g h k
+abbrev AreOfSources : List Reading → Type 0
+AreOfSources [] = Unit {0}
+AreOfSources (r ∷ rs) = IsOfSources r.key × AreOfSources rs
 
-of_no_call : (own : Crate) (d : MacroDirective) (makro : MacroId) (x : Expanding) (id : MapId)
-    → Contains (keys_read (text_readings makro x.text ++ expansion_readings own d x)) (keys.Map id) → ⊥
-of_no_call own d (macros.Macro2Id m) x id among =
-    one_of_four (keys.Text (macros.Macro2Id m)) (keys.Input own d.ast_id) (keys.Expansion x.entry) (keys.Tree (call_key own x.id)) (keys.Map id) among
-    (λ e. let wrong : ⊥ = cc in wrong) (λ e. let wrong : ⊥ = cc in wrong) (λ e. let wrong : ⊥ = cc in wrong) (λ e. let wrong : ⊥ = cc in wrong)
-of_no_call own d (macros.MacroRulesId m) x id among =
-    one_of_four (keys.Text (macros.MacroRulesId m)) (keys.Input own d.ast_id) (keys.Expansion x.entry) (keys.Tree (call_key own x.id)) (keys.Map id) among
-    (λ e. let wrong : ⊥ = cc in wrong) (λ e. let wrong : ⊥ = cc in wrong) (λ e. let wrong : ⊥ = cc in wrong) (λ e. let wrong : ⊥ = cc in wrong)
-of_no_call own d (macros.ProcMacroId m) x id among =
-    one_of_three (keys.Input own d.ast_id) (keys.Expansion x.entry) (keys.Tree (call_key own x.id)) (keys.Map id) among
-    (λ e. let wrong : ⊥ = cc in wrong) (λ e. let wrong : ⊥ = cc in wrong) (λ e. let wrong : ⊥ = cc in wrong)
+in_both : (xs ys : List Reading) → AreOfSources xs → AreOfSources ys → AreOfSources (xs ++ ys)
+in_both [] ys f g = g
+in_both (x ∷ xs) ys f g = (f.0, in_both xs ys f.1 g)
+
+of_each : (rs : List Reading) → AreOfSources rs → (key : Key) → Contains (keys_read rs) key → IsOfSources key
+of_each [] f key h = absurd (let past : h.0 < 0 = h.1 in omega arith)
+of_each (r ∷ rs) f key (zero, within, is) = subst IsOfSources is f.0
+of_each (r ∷ rs) f key (suc n, within, is) = of_each rs f.1 key (n, (let past : suc n < suc (length (keys_read rs)) = within in omega arith), is)
+
+of_text : (makro : MacroId) (text : Option (List ℕ)) → AreOfSources (text_readings makro text)
+of_text (macros.Macro2Id id) text = (tt, tt)
+of_text (macros.MacroRulesId id) text = (tt, tt)
+of_text (macros.ProcMacroId id) text = tt
+
+of_inner : (inner : List InnerMacro) → AreOfSources (inner_readings inner)
+of_inner [] = tt
+of_inner (i ∷ is) = in_both (text_readings i.makro i.text) (inner_readings is) (of_text i.makro i.text) (of_inner is)
+
+of_grown : (grown : Option Grown) → AreOfSources (grown_readings grown)
+of_grown None = tt
+of_grown (Some g) = (tt, of_inner g.macros)
+
+-- a call asks for such keys alone
+of_call_alone : (own : Crate) (d : MacroDirective) (makro : MacroId) (x : Expanding) (key : Key)
+    → Contains (keys_read (text_readings makro x.text ++ expansion_readings own d x)) key → IsOfSources key
+of_call_alone own d makro x key among =
+    of_each (text_readings makro x.text ++ expansion_readings own d x)
+    (in_both (text_readings makro x.text) (expansion_readings own d x) (of_text makro x.text)
+    (tt, in_both (grown_readings x.grown) (entry_readings own x) (of_grown x.grown) (tt, (tt, tt)))) key among
+
+-- so does one that waits for a path that its macro asks for
+of_eager_alone : (own : Crate) (d : MacroDirective) (makro : MacroId) (x : EagerLook) (key : Key) → Contains (keys_read (eager_readings own d makro x)) key
+    → IsOfSources key
+of_eager_alone own d makro x key among =
+    of_each (eager_readings own d makro x) (in_both (text_readings makro x.text) _ (of_text makro x.text) (tt, (tt, tt))) key among
 
 -- a map is asked for because the run's crate depends on its crate, or because it is that of what holds the run's block
 of_map_key : {tables : TablesValue} {w : Workspace} {finished : Maps} {from : Beginning} {last : State} {id : MapId} → HasCause tables w finished from last
@@ -114,22 +143,12 @@ of_map_key (root_tree is) = absurd (let wrong : ⊥ = cc in wrong)
 of_map_key (of_holder among) = inr among
 of_map_key (declared_enum home n listed is) = absurd (let wrong : ⊥ = cc in wrong)
 of_map_key (candidate at passed of) = let is = of.is in absurd (let wrong : ⊥ = cc in wrong)
-of_map_key {id = id} (of_call at passed of) = absurd (of_no_call at.core.map.id.krate of.call of.makro of.seen id of.among)
+of_map_key {id = id} (of_call at passed of) =
+    absurd (of_call_alone at.core.map.id.krate of.call of.makro of.seen (keys.Map id) of.among)
+of_map_key {id = id} (of_eager at passed of) =
+    absurd (of_eager_alone at.core.map.id.krate of.call of.makro of.seen (keys.Map id) of.among)
 of_map_key (dependency c among is) = inl (c, among, is)
 of_map_key (handed_in c among is) = absurd (let wrong : ⊥ = cc in wrong)
-
--- nor for what a crate was handed in with
-of_no_config : (own : Crate) (d : MacroDirective) (makro : MacroId) (x : Expanding) (c : Crate)
-    → Contains (keys_read (text_readings makro x.text ++ expansion_readings own d x)) (keys.Config c) → ⊥
-of_no_config own d (macros.Macro2Id m) x c among =
-    one_of_four (keys.Text (macros.Macro2Id m)) (keys.Input own d.ast_id) (keys.Expansion x.entry) (keys.Tree (call_key own x.id)) (keys.Config c) among
-    (λ e. let wrong : ⊥ = cc in wrong) (λ e. let wrong : ⊥ = cc in wrong) (λ e. let wrong : ⊥ = cc in wrong) (λ e. let wrong : ⊥ = cc in wrong)
-of_no_config own d (macros.MacroRulesId m) x c among =
-    one_of_four (keys.Text (macros.MacroRulesId m)) (keys.Input own d.ast_id) (keys.Expansion x.entry) (keys.Tree (call_key own x.id)) (keys.Config c) among
-    (λ e. let wrong : ⊥ = cc in wrong) (λ e. let wrong : ⊥ = cc in wrong) (λ e. let wrong : ⊥ = cc in wrong) (λ e. let wrong : ⊥ = cc in wrong)
-of_no_config own d (macros.ProcMacroId m) x c among =
-    one_of_three (keys.Input own d.ast_id) (keys.Expansion x.entry) (keys.Tree (call_key own x.id)) (keys.Config c) among
-    (λ e. let wrong : ⊥ = cc in wrong) (λ e. let wrong : ⊥ = cc in wrong) (λ e. let wrong : ⊥ = cc in wrong)
 
 one_crate : {c d : Crate} → keys.Config c ≡ keys.Config d → c ≡ d
 one_crate e = cc
@@ -142,7 +161,10 @@ of_config_key {finished = finished} {from = from} {c = c} (of_holder among) =
     let map = held_is_map from.start (holders_by finished from.start) (keys.Config c) among in absurd (let is = map.1 in let wrong : ⊥ = cc in wrong)
 of_config_key (declared_enum home n listed is) = absurd (let wrong : ⊥ = cc in wrong)
 of_config_key (candidate at passed of) = let is = of.is in absurd (let wrong : ⊥ = cc in wrong)
-of_config_key {c = c} (of_call at passed of) = absurd (of_no_config at.core.map.id.krate of.call of.makro of.seen c of.among)
+of_config_key {c = c} (of_call at passed of) =
+    absurd (of_call_alone at.core.map.id.krate of.call of.makro of.seen (keys.Config c) of.among)
+of_config_key {c = c} (of_eager at passed of) =
+    absurd (of_eager_alone at.core.map.id.krate of.call of.makro of.seen (keys.Config c) of.among)
 of_config_key (dependency d among is) = absurd (let wrong : ⊥ = cc in wrong)
 of_config_key {w = w} {from = from} (handed_in d listed is) =
     subst (λ (z : Crate). Contains (krate_of from.start ∷ transitive_dependencies_in w (krate_of from.start)) z) (sym (one_crate is)) listed

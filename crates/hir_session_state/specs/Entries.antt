@@ -1,5 +1,5 @@
 -- What has a session of each expansion?
-use Rattle.std.specs.Prelude.{true, not, List, [], filter, map, option_map, Option, Some, None}
+use Rattle.std.specs.Prelude.{true, not, List, filter, map, option_map, Option, Some, None}
 use Rattle.std.specs.Ordering.{nat_cmp, on, then_cmp}
 use Rattle.std.specs.Cmp.Lexicographic.{slice_cmp}
 use Rattle.std.specs.BTreeMap.{is_at, insert_entry}
@@ -56,4 +56,4 @@ source_of entry = option_map (λ e. e.source) entry
 -- what is seen of an expansion beside its items
 abbrev pub look_of : Option EntryValue → EntryLook
 look_of None = absent_entry
-look_of (Some e) = record { present = true; error = e.error; inner = [] }
+look_of (Some e) = record { present = true; error = e.error; inner = e.inner }

@@ -2,6 +2,7 @@
 use Rattle.std.specs.Prelude.{◌≡◌, ℕ, ◌+◌, Bool, false, true, ◌&&◌, not, nat_le, nat_lt, List, [], ◌∷◌, length, map, Option, Some, None, Result, Ok, Err}
 use Rattle.std.specs.Prelude.{if◌then◌else◌}
 use Rattle.std.specs.List.{list_all, list_any}
+use Rattle.hir_collector_rules.specs.HirBase.ModPath.{Path}
 use Rattle.hir_collector_rules.specs.HirBase.declared.place.BlockPlace.{BlockPlace}
 use Rattle.hir_collector_rules.specs.HirIds.declared.ids.Crate.{Crate}
 use Rattle.hir_collector_rules.specs.HirBase.declared.limit.Limit.{Limit}
@@ -15,12 +16,12 @@ use Rattle.hir_collector_rules.specs.HirTables.SourcePlaces.{ExpansionValue}
 use Rattle.hir_collector_rules.specs.HirItemTree.Attributes.{Attributes}
 use Rattle.hir_collector_rules.specs.HirItemTree.Source.{SourceValue}
 use Rattle.hir_collector_rules.specs.HirItemTree.Check.{verdict_of_check}
-use Rattle.hir_collector_rules.specs.HirItemTree.Limits.{are_deep, have_long_attribute}
+use Rattle.hir_collector_rules.specs.HirItemTree.Limits.{are_deep, have_long_attribute, is_long}
 use Rattle.hir_collector_rules.specs.HirItemTree.declared.check.CheckError.{CheckError}
 use Rattle.hir_collector_rules.specs.HirItemTree.declared.check.CheckError.TheVariants as check_error
 use Rattle.hir_messages.specs.CommandValue.{CrateInputValue}
 use Rattle.hir_messages.specs.declared.command.Dependency.{Dependency}
-use Rattle.hir_messages.specs.Edits.{CrateDataValue, EditValue, set_file, remove_file, set_block, remove_block, set_expansion, remove_expansion, set_crate}
+use Rattle.hir_messages.specs.Edits.{CrateDataValue, EditValue, EntryValue, set_file, remove_file, set_block, remove_block, set_expansion, remove_expansion, set_crate}
 use Rattle.hir_session_state.specs.declared.error.NewSessionError.{NewSessionError}
 use Rattle.hir_session_state.specs.declared.error.NewSessionError.TheVariants as new_error
 use Rattle.hir_session_state.specs.declared.error.EditError.{EditError}
@@ -130,10 +131,28 @@ verdict_of_source source =
 abbrev pub are_known : ℕ → ExpansionValue → Bool
 are_known count key = nat_lt key.caller.0 count && (nat_lt key.called.krate.0 count && list_all (λ (m : MacroText). nat_lt m.krate.0 count) key.reached)
 
+-- the most paths that a macro may ask to have resolved first
+abbrev pub max_inner : ℕ
+max_inner = 1000
+
+-- what such paths are refused for: one with too many segments, or too many of them
+abbrev pub verdict_of_inner : List Path → Result (Unit {0}) EditError
+verdict_of_inner paths =
+    if list_any is_long paths then Err (edit_error.TooLarge limit.Path) else
+    (if nat_lt max_inner (length paths) then Err (edit_error.TooLarge limit.Inner) else Ok tt)
+
+-- what an expansion is refused for: the paths that it lists, or its source where it lists none
+abbrev pub verdict_of_paths : List Path → Result (Unit {0}) EditError → Result (Unit {0}) EditError
+verdict_of_paths [] verdict = verdict
+verdict_of_paths (path ∷ paths) verdict = verdict_of_inner (path ∷ paths)
+
+abbrev pub verdict_of_entry : EntryValue → Result (Unit {0}) EditError
+verdict_of_entry entry = verdict_of_paths entry.inner (verdict_of_source entry.source)
+
 -- what an expansion that is set is refused for: crates that aren't there first
-abbrev pub verdict_of_expansion : ℕ → ExpansionValue → SourceValue → Result (Unit {0}) EditError
-verdict_of_expansion count key source =
-    if are_known count key then verdict_of_source source else Err edit_error.UnknownCrate
+abbrev pub verdict_of_expansion : ℕ → ExpansionValue → EntryValue → Result (Unit {0}) EditError
+verdict_of_expansion count key entry =
+    if are_known count key then verdict_of_entry entry else Err edit_error.UnknownCrate
 
 -- what an expansion that is removed is refused for
 abbrev pub verdict_of_removal : ℕ → ExpansionValue → Result (Unit {0}) EditError
@@ -213,6 +232,6 @@ verdict_of_apply count (set_file path source) = verdict_of_source source
 verdict_of_apply count (remove_file path) = Ok tt
 verdict_of_apply count (set_block place source) = verdict_of_block count place (verdict_of_source source)
 verdict_of_apply count (remove_block place) = verdict_of_block count place (Ok tt)
-verdict_of_apply count (set_expansion key entry) = verdict_of_expansion count key entry.source
+verdict_of_apply count (set_expansion key entry) = verdict_of_expansion count key entry
 verdict_of_apply count (remove_expansion key) = verdict_of_removal count key
 verdict_of_apply count (set_crate krate given) = verdict_of_crate count krate given

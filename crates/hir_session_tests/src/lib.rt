@@ -8,4 +8,6 @@ mod attributes;
 #[cfg(test)]
 mod calls;
 #[cfg(test)]
+mod eager;
+#[cfg(test)]
 mod library;

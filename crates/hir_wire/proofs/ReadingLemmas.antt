@@ -1,6 +1,6 @@
 -- Readings of parts, and what is told of two errors.
 use Rattle.std.proofs.Common.{◌≡◌, ◌≢◌, ◌<◌, ◌+◌, ℕ, List, [], ◌∷◌, ◌++◌, map, length, drop, slice_index_or, true, false, nat_lt, if◌then◌else◌, Result, Ok}
-use Rattle.std.proofs.Common.{Err, IfErr, Vec, refl, sym, ap, ◌∙◌, subst, map-id, arith}
+use Rattle.std.proofs.Common.{Err, IfErr, Option, Some, None, option_map, Vec, refl, sym, ap, ◌∙◌, subst, map-id, arith}
 use Rattle.std.proofs.lemmas.Bool.Decides.{nat_tests}
 use Rattle.std.proofs.lemmas.List.{drop_more}
 use Rattle.std.specs.declared.alloc.Global.{Global}
@@ -256,3 +256,29 @@ as_is-told m (Err Memory) h = h
 -- a list whose items are seen as they are
 pub as_is : {A : Type 0} {m : Reading (List A)} {r : Result (Vec A Global) ReadError} → Reads (λ v. map (λ (a : A). a) v.items) m r → Reads (λ v. v.items) m r
 as_is {A} {m} {r} i = record { told = as_is-told m r i.told }
+
+option_as_is : {A : Type 0} (o : Option A) → option_map (λ (a : A). a) o ≡ o
+option_as_is None = refl
+option_as_is (Some a) = refl
+
+maybe_as_is-told : {A : Type 0} (m : Reading (Option A)) (r : Result (Option A) ReadError) → Tells (λ o. option_map (λ (a : A). a) o) m r → Tells (λ o. o) m r
+maybe_as_is-told m (Ok o) h = h ∙ ap Ok (option_as_is o)
+maybe_as_is-told m (Err Json) h = h
+maybe_as_is-told m (Err Command) h = h
+maybe_as_is-told m (Err (TooLarge l)) h = h
+maybe_as_is-told m (Err Memory) h = h
+
+-- a part that may be absent and is seen as it is
+pub maybe_as_is : {A : Type 0} {m : Reading (Option A)} {r : Result (Option A) ReadError} → Reads (λ o. option_map (λ (a : A). a) o) m r → Reads (λ o. o) m r
+maybe_as_is {A} {m} {r} i = record { told = maybe_as_is-told m r i.told }
+
+made_reads-told : {A B D : Type 0} (f : A → B) (g : B → D) (m : Reading B) (r : Result A ReadError) → Tells f m r → Tells (λ a. g (f a)) (made g m) r
+made_reads-told f g m (Ok a) h = ap (made g) h
+made_reads-told f g m (Err Json) h = h
+made_reads-told f g m (Err Command) h = ap (made g) h
+made_reads-told f g m (Err (TooLarge l)) h = ap (made g) h
+made_reads-told f g m (Err Memory) h = h
+
+-- what is made of a part is read as the part is
+pub made_reads : {A B D : Type 0} {f : A → B} (g : B → D) {m : Reading B} {r : Result A ReadError} → Reads f m r → Reads (λ a. g (f a)) (made g m) r
+made_reads {A} {B} {D} {f} g {m} {r} i = record { told = made_reads-told f g m r i.told }

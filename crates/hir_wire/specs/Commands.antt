@@ -18,7 +18,7 @@ use Rattle.hir_messages.specs.CommandValue.{CommandValue, CrateInputValue, crate
 use Rattle.hir_messages.specs.CommandValue.{impl_items, names, refresh, resolve, status, trait_items, tree}
 use Rattle.hir_wire.specs.Conditions.{option_of}
 use Rattle.hir_messages.specs.Edits.{set_file, remove_file, set_block, remove_block, set_expansion, remove_expansion, set_crate}
-use Rattle.hir_wire.specs.Expansions.{entry_in, key_of}
+use Rattle.hir_wire.specs.Expansions.{call_key_of, entry_in, inner_in, key_of}
 use Rattle.hir_wire.specs.Nodes.{source_of}
 use Rattle.hir_wire.specs.Paths.{name_of, path_of, file_of, bool_of, crate_of, number_of, place_of, block_place_of}
 use Rattle.hir_wire.specs.Reading.{Reading, made, paired, required, optional, word_as, list_of, has_member}
@@ -105,9 +105,18 @@ set_file_in ms = made (λ p. edit (set_file p.0 p.1)) (paired (required file_of 
 unfoldable pub set_block_in : Members → Reading CommandValue
 set_block_in ms = made (λ p. edit (set_block p.0 p.1)) (paired (required block_place_of (codes "at") ms) (required source_of (codes "unit") ms))
 
--- what an expansion depends on, and what it gives
+-- what an expansion depends on, and what it gives: its syntax
+unfoldable pub unit_expansion_in : Members → Reading CommandValue
+unit_expansion_in ms = made (λ p. edit (set_expansion p.0 p.1)) (paired (required key_of (codes "key") ms) (entry_in ms))
+
+-- or the paths that its macro asks to have resolved first, while none is
+unfoldable pub inner_expansion_in : Members → Reading CommandValue
+inner_expansion_in ms = made (λ p. edit (set_expansion p.0 p.1)) (paired (required call_key_of (codes "key") ms) (inner_in ms))
+
+-- one of the two
 unfoldable pub set_expansion_in : Members → Reading CommandValue
-set_expansion_in ms = made (λ p. edit (set_expansion p.0 p.1)) (paired (required key_of (codes "key") ms) (entry_in ms))
+set_expansion_in ms =
+    if has_member (codes "inner") ms then (if has_member (codes "unit") ms then Err Command else inner_expansion_in ms) else unit_expansion_in ms
 
 -- the crate and the data that it gets; the object's root file, and whether it says a procedural macro's, are read and left aside
 unfoldable pub set_crate_in : Members → Reading CommandValue

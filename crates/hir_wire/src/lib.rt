@@ -14,7 +14,7 @@ pub use answer::{
 };
 pub use command::{Command, CrateInput, Dependencies, Dependency, MacroStyle, Shadow};
 pub use diagnostic::{CalledItem, Diagnostic, DiagnosticKind, Diagnostics, Texts};
-pub use edit::{Edit, ExpansionEntry};
+pub use edit::{CallKey, Edit, ExpansionEntry};
 pub use hir_base::place::{BlockPlace, Place, PlaceElement};
 pub use items::{AssocItem, AssocItems, CalledItems, Items};
 pub use names::{BoundName, BoundNames};

@@ -2,7 +2,7 @@
 use crate::answers::{answer_below, answer_in, places_with};
 use crate::crates::{push_crate, push_dependencies, push_front, push_options};
 use crate::diagnostics::{diagnostics_below, diagnostics_of};
-use crate::keys::{push_entry, push_key};
+use crate::keys::{push_entry, push_error, push_inner, push_key};
 use crate::parts::push_parts;
 use crate::places::{push_block, push_impl, push_place, push_trait};
 use hir_base::cfg_options::CfgOptions;
@@ -145,6 +145,10 @@ fn with_command(
             push_key(out, key)?;
             push_entry(out, entry)?;
             read(alloc, &entry.source, out)
+        }
+        Command::Edit(Edit::SetInnerPaths { key, inner, error }) => {
+            push_inner(out, key, inner)?;
+            push_error(out, error)
         }
         Command::Edit(Edit::RemoveExpansion { key }) => push_key(out, key),
         Command::Edit(

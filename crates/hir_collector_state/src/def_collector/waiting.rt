@@ -4,48 +4,31 @@
 ghost use Rattle.std.specs.Prelude.{◌≡◌, ◌<◌, true, false, length, option_map, OnOk};
 ghost use Rattle.hir_collector_rules.specs.HirNameres.WorldParts.{part_of};
 ghost use Rattle.hir_collector_rules.specs.HirDefMapRules.Macros.{with_derive_helper, with_exported, with_macro_data};
-ghost use Rattle.hir_collector_rules.specs.State.{core_in, with_exported_function, with_map};
+ghost use Rattle.hir_collector_rules.specs.State.{core_in, eager_at, with_exported_function, with_map};
 ghost use Rattle.hir_collector_rules.specs.Attributes.{exports_from};
-ghost use Rattle.hir_collector_rules.specs.Calls.{called_macro, is_inert_now, kept_of, macro_among, suited};
+ghost use Rattle.hir_collector_rules.specs.Calls.{asked_before, called_macro, first_missing, inner_macro, is_inert_now, kept_of};
 ghost use Rattle.hir_collector_rules.specs.CallMoves.{IsAttributeWaiting};
 ghost use Rattle.hir_collector_rules.specs.Changes.{with_derived};
-ghost use Rattle.hir_collector_state.specs.Waiting.{IsNoted, call_reads};
+ghost use Rattle.hir_collector_state.specs.Waiting.{IsNoted, call_reads, inner_reads};
 
 use crate::def_collector::DefCollector;
 use hir_base::ast_id::AstId;
 use hir_base::ids::HasModule;
 use hir_base::macro_kind::{BuiltinDeriveImplId, MacroId, ProcMacroId};
+use hir_base::mod_path::ModPath;
+use hir_base::resolve_mode::MacroSubNs;
 use hir_collector_rules::exported::ExportedFunction;
 use hir_collector_rules::hir_nameres::def_maps::DefMaps;
 use hir_collector_rules::hir_nameres::nameres::DefMap;
 use hir_collector_rules::hir_nameres::nameres::derive_helpers::DeriveHelper;
 use hir_collector_rules::hir_nameres::nameres::macro_data::MacroData;
-use hir_collector_rules::hir_nameres::nameres::path_resolution::query::Query;
 use hir_collector_rules::hir_nameres::nameres::path_resolution::slots::PathSlots;
 use hir_collector_rules::hir_nameres::nameres::path_resolution::{BuiltinShadowMode, ResolveMode};
 use hir_collector_rules::hir_nameres::world::part::WorldPart;
-use hir_collector_rules::hir_scope::per_ns::PerNs;
 use hir_collector_rules::macro_directive::{MacroDirective, MacroDirectiveKind};
+use hir_collector_start::called::{called_macro, inner_macro, missing_of};
 use hir_collector_start::helpers::is_helper;
 use std::alloc::AllocError;
-
-/// The macro among what a path reaches.
-fn macro_among(items: PerNs) -> Option<MacroId>
-    ensures value { result ≡ macro_among items }
-{
-    match items.macros {
-        Some(item) => Some(item.def),
-        None => None,
-    }
-}
-
-/// A macro, if it will do for what asks for one.
-fn suited(call: &MacroDirective, found: Option<MacroId>) -> Option<MacroId>
-    ensures value { result ≡ suited call.now.kind found }
-{
-    let makro = found?;
-    if call.suits(makro) { Some(makro) } else { None }
-}
 
 /// Lists the impl that a builtin derive macro stands for in a module of a map.
 fn list_in_scope(map: &mut DefMap, home: u32, imp: BuiltinDeriveImplId) -> Result<(), AllocError>
@@ -121,16 +104,35 @@ impl DefCollector {
     pub fn called_macro(&self, world: WorldPart<'_>, call: &MacroDirective) -> Option<MacroId>
         ensures value { result ≡ called_macro (part_of world.entry) (core_in self.now).local (core_in self.now).map call.now }
     {
-        let query = Query {
-            maps: DefMaps::new(world, &self.map),
-            local: Some(&self.local),
-            mode: ResolveMode::Other,
-            shadow: BuiltinShadowMode::Module,
-            sub_ns: Some(call.sub_ns()),
-        };
-        let path = call.path();
-        let answer = query.resolve(self.module_id(call.site.home), path.kind(), path.segments());
-        suited(call, macro_among(answer.resolved_def))
+        called_macro(world, &self.map, &self.local, call)
+    }
+
+    /// The macro that a path reaches in a module, which a macro asks to have resolved first.
+    pub fn inner_macro(&self, world: WorldPart<'_>, home: u32, path: &ModPath) -> Option<MacroId>
+        ensures value { result ≡ inner_macro (part_of world.entry) (core_in self.now).local (core_in self.now).map home path.now }
+    {
+        inner_macro(world, &self.map, &self.local, home, path)
+    }
+
+    /// The first of the paths that a macro asked for where the call at the place reached it that reaches nothing.
+    pub fn missing_path<'a>(
+        &'a self,
+        world: WorldPart<'_>,
+        i: usize,
+        call: &MacroDirective,
+        makro: MacroId,
+    ) -> Option<&'a ModPath>
+        ensures value { option_map (λ path. path.now) result ≡ first_missing (part_of world.entry) (core_in self.now).local (core_in self.now).map call.now.site.home
+            (asked_before (eager_at (core_in self.now) i) makro) }
+    {
+        missing_of(
+            world,
+            &self.map,
+            &self.local,
+            call.site.home,
+            self.eager_at(i),
+            makro,
+        )
     }
 
     /// Whether what waits is an attribute, and inert by now: a helper.
@@ -152,6 +154,25 @@ impl DefCollector {
             Some(map) => map.macro_data(makro),
             None => None,
         }
+    }
+
+    /// The slots that such a path reads.
+    pub fn inner_slots<'a>(
+        &'a self,
+        world: WorldPart<'a>,
+        home: u32,
+        path: &'a ModPath,
+    ) -> PathSlots<'a>
+        ensures value { result ≡ inner_reads (part_of world.entry) (core_in self.now).local (core_in self.now).map home path.now }
+    {
+        DefMaps::new(world, &self.map).path_slots(
+            Some(&self.local),
+            ResolveMode::Other,
+            self.module_id(home),
+            path,
+            BuiltinShadowMode::Module,
+            Some(MacroSubNs::Bang),
+        )
     }
 
     /// The slots that the path of a call reads.

@@ -1,18 +1,20 @@
 //! Expansions of macro calls: what they depend on, and what they give.
-ghost use Rattle.std.specs.Prelude.{◌≡◌};
+ghost use Rattle.std.specs.Prelude.{◌≡◌, []};
 ghost use Rattle.serde_json.specs.View.{view, members_view, items_view};
 ghost use Rattle.hir_tables.specs.SourcePlaces.{expansion_value};
-ghost use Rattle.hir_messages.specs.Edits.{entry_view};
-ghost use Rattle.hir_wire.specs.Expansions.{call_of_word, attribute_call, call_of_items, call_of, macro_text_in, key_in, entry_in};
+ghost use Rattle.hir_messages.specs.Edits.{call_key_value, entry_view, inner_entry};
+ghost use Rattle.hir_wire.specs.Expansions.{call_of_word, attribute_call, call_of_items, call_of, macro_text_in, key_in, entry_in, inner_in, unresolved};
 ghost use Rattle.hir_wire.specs.Reading.{Reads};
 
-use crate::edit::ExpansionEntry;
-use crate::json::combinators::{both, maybe, required};
+use crate::edit::{CallKey, ExpansionEntry};
+use crate::json::combinators::{both, list_or_empty, maybe, required};
 use crate::json::from_json::FromJson;
 use crate::read::path::read_u32;
 use crate::read_error::ReadError;
 use hir_base::ast_id::AttrId;
 use hir_base::macro_kind::{CallStyle, ExpansionKey, MacroText};
+use hir_base::mod_path::ModPath;
+use hir_base::text::Text;
 use serde_json::{Map, Value};
 use std::alloc::Global;
 
@@ -85,26 +87,47 @@ fn read_macro_text(alloc: Global, members: &Map<String, Value>) -> Result<MacroT
     }
 }
 
+impl FromJson for MacroText {
+    ghost use Rattle.hir_base.specs.declared.macro_kind.MacroText.{MacroText};
+    ghost use Rattle.hir_wire.specs.Expansions.{macro_text_of};
+
+    ghost Seen = { MacroText };
+
+    ghost seen = { λ m. m };
+
+    ghost meaning = { macro_text_of };
+
+    fn read(alloc: Global, value: &Value) -> Result<MacroText, ReadError> {
+        match value {
+            Value::Object(members) => read_macro_text(alloc, members),
+            _ => Err(ReadError::Command),
+        }
+    }
+}
+
 #[tactic(auto, unfolding(crate::specs::Expansions::key_in))]
 fn read_key_members(alloc: Global, members: &Map<String, Value>) -> Result<ExpansionKey, ReadError>
     ensures value { Reads expansion_value (key_in (members_view members.now.entries)) result }
 {
     match both(
         both(
-            required(alloc, members, "caller"),
-            read_macro_text(alloc, members),
+            both(
+                required(alloc, members, "caller"),
+                read_macro_text(alloc, members),
+            ),
+            both(
+                required(alloc, members, "call"),
+                required(alloc, members, "input"),
+            ),
         ),
-        both(
-            required(alloc, members, "call"),
-            required(alloc, members, "input"),
-        ),
+        list_or_empty(alloc, members, "reached"),
     ) {
-        Ok(((caller, called), (call, input))) => Ok(ExpansionKey {
+        Ok((((caller, called), (call, input)), reached)) => Ok(ExpansionKey {
             caller,
             called,
             call,
             input,
-            reached: Vec::new(alloc),
+            reached,
         }),
         Err(error) => Err(error),
     }
@@ -128,6 +151,47 @@ impl FromJson for ExpansionKey {
     }
 }
 
+/// A key, if it names no macros that paths reach.
+fn unresolved(key: ExpansionKey) -> Result<CallKey, ReadError>
+    ensures value { Reads call_key_value (unresolved (expansion_value key)) result }
+{
+    let ExpansionKey {
+        caller,
+        called,
+        call,
+        input,
+        reached,
+    } = key;
+    if !reached.is_empty() {
+        return Err(ReadError::Command);
+    }
+    Ok(CallKey {
+        caller,
+        called,
+        call,
+        input,
+    })
+}
+
+impl FromJson for CallKey {
+    ghost use Rattle.hir_tables.specs.SourcePlaces.{ExpansionValue};
+    ghost use Rattle.hir_messages.specs.Edits.{call_key_value};
+    ghost use Rattle.hir_wire.specs.Expansions.{call_key_of};
+
+    ghost Seen = { ExpansionValue };
+
+    ghost seen = { call_key_value };
+
+    ghost meaning = { call_key_of };
+
+    fn read(alloc: Global, value: &Value) -> Result<CallKey, ReadError> {
+        match ExpansionKey::read(alloc, value) {
+            Ok(key) => unresolved(key),
+            Err(error) => Err(error),
+        }
+    }
+}
+
 /// What an expansion gives: its syntax, and why it failed, if it did.
 #[tactic(auto, unfolding(crate::specs::Expansions::entry_in))]
 pub fn read_entry(alloc: Global, members: &Map<String, Value>) -> Result<ExpansionEntry, ReadError>
@@ -140,4 +204,18 @@ pub fn read_entry(alloc: Global, members: &Map<String, Value>) -> Result<Expansi
         Ok((source, error)) => Ok(ExpansionEntry { source, error }),
         Err(error) => Err(error),
     }
+}
+
+/// The paths that a macro asks to have resolved first, and why its expansion failed, if it did.
+#[tactic(auto, unfolding(crate::specs::Expansions::inner_in))]
+pub fn read_inner(
+    alloc: Global,
+    members: &Map<String, Value>,
+) -> Result<(Vec<ModPath>, Option<Text>), ReadError>
+    ensures value { Reads (λ p. inner_entry p.0.items p.1) (inner_in (members_view members.now.entries)) result }
+{
+    both(
+        required(alloc, members, "inner"),
+        maybe(alloc, members, "error"),
+    )
 }

@@ -4,7 +4,7 @@ ghost use Rattle.serde_json.specs.View.{view, members_view};
 ghost use Rattle.hir_messages.specs.CommandValue.{command_view, crate_modules, file_modules};
 ghost use Rattle.hir_wire.specs.Paths.{crate_of, file_of};
 ghost use Rattle.hir_wire.specs.Reading.{Reads, made, required, word_as};
-ghost use Rattle.hir_wire.specs.Commands.{verb_of_word, set_file_in, set_expansion_in, set_block_in, set_crate_in, resolve_in, trait_items_in, impl_items_in, modules_in, tree_in, fields_of, command_with, command_of, data_of, reading_of};
+ghost use Rattle.hir_wire.specs.Commands.{verb_of_word, set_file_in, set_expansion_in, unit_expansion_in, inner_expansion_in, set_block_in, set_crate_in, resolve_in, trait_items_in, impl_items_in, modules_in, tree_in, fields_of, command_with, command_of, data_of, reading_of};
 
 use crate::command::{Command, CrateInput, MacroStyle, Shadow};
 use crate::edit::Edit;
@@ -12,7 +12,7 @@ use crate::json::combinators::{both, required};
 use crate::json::floats::holds_float;
 use crate::json::from_json::has_member;
 use crate::json::words::{Word, optional_word, required_word};
-use crate::read::expansion::read_entry;
+use crate::read::expansion::{read_entry, read_inner};
 use crate::read_error::ReadError;
 use hir_base::ids::Crate;
 use serde_json::{Map, Value};
@@ -145,15 +145,40 @@ fn read_remove_block(alloc: Global, members: &Map<String, Value>) -> Result<Comm
     }
 }
 
-#[tactic(auto, unfolding(crate::specs::Commands::set_expansion_in))]
-fn read_set_expansion(alloc: Global, members: &Map<String, Value>) -> Result<Command, ReadError>
+#[tactic(auto, unfolding(crate::specs::Commands::unit_expansion_in))]
+fn read_unit_expansion(alloc: Global, members: &Map<String, Value>) -> Result<Command, ReadError>
     ensures value { Reads command_view
-        (set_expansion_in (members_view members.now.entries)) result }
+        (unit_expansion_in (members_view members.now.entries)) result }
 {
     match both(required(alloc, members, "key"), read_entry(alloc, members)) {
         Ok((key, entry)) => Ok(Command::Edit(Edit::SetExpansion { key, entry })),
         Err(error) => Err(error),
     }
+}
+
+#[tactic(auto, unfolding(crate::specs::Commands::inner_expansion_in))]
+fn read_inner_expansion(alloc: Global, members: &Map<String, Value>) -> Result<Command, ReadError>
+    ensures value { Reads command_view
+        (inner_expansion_in (members_view members.now.entries)) result }
+{
+    match both(required(alloc, members, "key"), read_inner(alloc, members)) {
+        Ok((key, (inner, error))) => Ok(Command::Edit(Edit::SetInnerPaths { key, inner, error })),
+        Err(error) => Err(error),
+    }
+}
+
+#[tactic(auto, unfolding(crate::specs::Commands::set_expansion_in))]
+fn read_set_expansion(alloc: Global, members: &Map<String, Value>) -> Result<Command, ReadError>
+    ensures value { Reads command_view
+        (set_expansion_in (members_view members.now.entries)) result }
+{
+    if !has_member(members, "inner") {
+        return read_unit_expansion(alloc, members);
+    }
+    if has_member(members, "unit") {
+        return Err(ReadError::Command);
+    }
+    read_inner_expansion(alloc, members)
 }
 
 fn read_remove_expansion(alloc: Global, members: &Map<String, Value>) -> Result<Command, ReadError>

@@ -29,3 +29,19 @@ returns-in_default-clause-ok g c =
     taken_alone c.args.locations.now w of i (left_of c.args.left.now.items) (listing_view c.args.found.now) (listing_view c.tell_unresolved.new.found)
     (unresolved of i path)
     (λ grown k. call path (unresolved of i path) [] c.requires.is (unreached shallow reaches_none)) c.in_ok-tell_unresolved.ensures.ok
+
+pub returns-clause-unknown : goal.returns-clause-unknown
+returns-clause-unknown g c = λ h.
+    let of = container_view c.args.container.now in
+    let i : WrittenValue = written_view c.args.item.now in
+    let limit : c.from.result ≡ c.recursion_limit.result = search rules in
+    record {
+      path = c.args.path.now;
+      makro = c.in-Some.makro;
+      reaches = record {
+        is = c.requires.is;
+        shallow = subst (λ (n : ℕ). i.level < n) (limit ∙ c.recursion_limit.ensures.value) c.if-item-from.false;
+        reached = sym c.called_macro.ensures.value ∙ c.in-Some.is;
+      };
+      unknown = c.expand.ensures.unknown h;
+    }

@@ -75,7 +75,7 @@ returns-then-is_none-clause-ready g c =
     ∙ ap (λ (t : Tree). core_of part t (exports_macros c.args.start (crate_in w (krate_of c.args.start))) (w.config (krate_of c.args.start)) transitive holders
     c.args.start c.args.id) tree in
     ready_empty tables part (core_in c.in_ok-run.run') (ap (λ (r : Core). r.globs) is) (ap (λ (r : Core). r.reached) is) (ap (λ (r : Core). r.taken) is)
-    (ap (λ (r : Core). r.calls) is) (ap (λ (r : Core). r.fates) is)
+    (ap (λ (r : Core). r.calls) is) (ap (λ (r : Core). r.fates) is) (ap (λ (r : Core). r.eager) is)
     (subst (λ (r : Core). IsInOrder r.map) (sym is)
     (root_in_order (core_of part source.tree (exports_macros c.args.start (crate_in w (krate_of c.args.start))) (w.config (krate_of c.args.start)) transitive
     holders c.args.start c.args.id).map (new_module (origin_of c.args.start) (root_visibility c.args.start) None) refl refl))

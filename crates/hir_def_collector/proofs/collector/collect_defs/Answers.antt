@@ -7,9 +7,10 @@ use Rattle.hir_mod_collector.specs.HirTables.Tables.{source_of}
 use Rattle.hir_mod_collector.proofs.HirTables.Growth.{KeepsTables-trans}
 use Rattle.hir_mod_collector.specs.HirNameres.WorldParts.{among, part_of}
 use Rattle.hir_mod_collector.specs.HirDefMapRules.Overlay.{map_in}
+use Rattle.hir_mod_collector.specs.HirMapParts.declared.diagnostics.DefDiagnostic.{DefDiagnostic}
 use Rattle.hir_mod_collector.specs.HirNameres.World.{finished_in}
 use Rattle.hir_mod_collector.specs.HirCollectorRules.CallMoves.{ComesToRest}
-use Rattle.hir_mod_collector.specs.HirCollectorRules.Derivation.{IsSpent, collected_view}
+use Rattle.hir_mod_collector.specs.HirCollectorRules.Derivation.{IsSpent, collected_view, told_run}
 use Rattle.hir_mod_collector.specs.HirCollectorRules.Keys.{environment}
 use Rattle.hir_mod_collector.specs.HirCollectorRules.ModuleFiles.{file_of_tree, is_file_meant}
 use Rattle.hir_mod_collector.specs.HirCollectorRules.Moves.{OnceGrown}
@@ -69,7 +70,10 @@ returns-then-is_unknown-clause-ends g c = λ v finished agrees.
     let run = core_in c.in_ok-run.run' in
     ends_from tables w all from (part_of c.among-part.result) c.in_ok-transitive.transitive.value holders reads depends held run run false
     (collected_view c.in_ok-finish.field-0)
-    c.in_ok-run.ensures.ok none (c.in_ok-run.ensures.idle gone (environment tables w)) c.in_ok-finish.ensures.value v finished agrees
+    c.in_ok-run.ensures.ok none (c.in_ok-run.ensures.idle gone (environment tables w))
+    (c.in_ok-finish.ensures.value
+    ∙ ap (λ (told : List DefDiagnostic). told_run run told false c.in_ok-transitive.transitive.value) c.in_ok-told.ensures.value)
+    v finished agrees
 
 -- ---- rounds follow the walk
 
@@ -161,6 +165,10 @@ returns-in_err-run-2-clause-unknown g c = λ h.
     (λ maps s. LeadsToUnknownSource (environment later w) maps s)
     (unknown_after (c.in_ok-run.ensures.grown there later c.in_err-run-2.ensures.kept) leads))
 
+pub returns-in_err-told-2-clause-kept : goal.returns-in_err-told-2-clause-kept
+returns-in_err-told-2-clause-kept g c =
+    KeepsTables-trans c.args.locations.now c.begin.new.locations c.resolve_rounds.new.locations c.in_ok-run.ensures.kept c.in_ok-run-2.ensures.kept
+
 pub returns-in_err-finish-2-clause-kept : goal.returns-in_err-finish-2-clause-kept
 returns-in_err-finish-2-clause-kept g c =
     KeepsTables-trans c.args.locations.now c.begin.new.locations c.resolve_rounds.new.locations c.in_ok-run.ensures.kept c.in_ok-run-2.ensures.kept
@@ -196,4 +204,9 @@ returns-clause-ends g c = λ v finished agrees.
     ends_from later w all from part c.in_ok-transitive.transitive.value holders reads depends held run last c.in_ok-run-2.round_limit_met
     (collected_view c.in_ok-finish-2.field-0)
     (c.in_ok-run.ensures.grown there later c.in_ok-run-2.ensures.kept) (after later (tables_stay later)) (comes later (tables_stay later))
-    c.in_ok-finish-2.ensures.value v finished agrees
+    (c.in_ok-finish-2.ensures.value
+    ∙ ap (λ (told : List DefDiagnostic). told_run last told c.in_ok-run-2.round_limit_met c.in_ok-transitive.transitive.value) c.in_ok-told-2.ensures.value)
+    v finished agrees
+
+pub returns-clause-placed : goal.returns-clause-placed
+returns-clause-placed g c = λ placed. c.in_ok-run-2.ensures.placed (c.in_ok-run.ensures.placed placed)

@@ -13,6 +13,7 @@ use Rattle.hir_collector_derives.proofs.CallSteps.{dropped, past_rule}
 use Rattle.hir_mod_collector.proofs.HirCollectorRules.Lists.{get_inside, get_set_same}
 use Rattle.hir_mod_collector.proofs.HirCollectorRules.Numbers.{known_step, refused_step}
 use Rattle.hir_macro_calls.proofs.GivingUp.{has_impl, nothing_due}
+use Rattle.hir_macro_calls.proofs.Meeting.{meets_none}
 use Rattle.hir_mod_collector.proofs.HirCollectorState.Noted.{noted_beside, noted_itself}
 use Rattle.hir_macro_rounds.proofs.calls.do_due.Goals as goal
 
@@ -26,15 +27,15 @@ returns-in-Nothing-clause-noted g c = noted_beside (noted_itself c.args.run.now)
 pub returns-in-Nothing-clause-tried : goal.returns-in-Nothing-clause-tried
 returns-in-Nothing-clause-tried g c =
     let part = part_of c.args.world in
-    let due : IsDueOf part (core_in c.args.run.now) c.args.call.now Nothing = subst (IsDueOf part (core_in c.args.run.now) c.args.call.now) c.in-Nothing.is
+    let due : IsDueOf part (core_in c.args.run.now) c.args.i c.args.call.now Nothing = subst (IsDueOf part (core_in c.args.run.now) c.args.i c.args.call.now) c.in-Nothing.is
     c.requires.due in
-    left refl (nothing_due part (core_in c.args.run.now) c.args.i c.args.call.now c.requires.waits.waiting due)
+    left (meets_none _ _ refl) (nothing_due part (core_in c.args.run.now) c.args.i c.args.call.now c.requires.waits.waiting due)
 
 -- a call that is too deep is dropped
 pub returns-in_err-drop_call-in-TooDeep-clause-many : goal.returns-in_err-drop_call-in-TooDeep-clause-many
 returns-in_err-drop_call-in-TooDeep-clause-many g c = λ h grown k.
     let part = part_of c.args.world in
-    let due : IsDueOf part (core_in c.args.run.now) c.args.call.now TooDeep = subst (IsDueOf part (core_in c.args.run.now) c.args.call.now) c.in-TooDeep.is
+    let due : IsDueOf part (core_in c.args.run.now) c.args.i c.args.call.now TooDeep = subst (IsDueOf part (core_in c.args.run.now) c.args.i c.args.call.now) c.in-TooDeep.is
     c.requires.due in
     let deep : IsDeep (at_rest (core_in c.args.run.now)) c.args.i c.args.call.now = record { due = c.requires.waits; is_call = due.0; deep = due.1 } in
     past_rule (environment grown (g.D.SourceDatabase.workspace c.args.db.now)) part (core_in c.args.run.now) (drops_call c.args.i c.args.call.now) deep tt tt
@@ -44,7 +45,7 @@ returns-in_err-drop_call-in-TooDeep-clause-many g c = λ h grown k.
 pub returns-in_ok-drop_call-in-TooDeep-clause-ok : goal.returns-in_ok-drop_call-in-TooDeep-clause-ok
 returns-in_ok-drop_call-in-TooDeep-clause-ok g c = λ grown k.
     let part = part_of c.args.world in
-    let due : IsDueOf part (core_in c.args.run.now) c.args.call.now TooDeep = subst (IsDueOf part (core_in c.args.run.now) c.args.call.now) c.in-TooDeep.is
+    let due : IsDueOf part (core_in c.args.run.now) c.args.i c.args.call.now TooDeep = subst (IsDueOf part (core_in c.args.run.now) c.args.i c.args.call.now) c.in-TooDeep.is
     c.requires.due in
     let deep : IsDeep (at_rest (core_in c.args.run.now)) c.args.i c.args.call.now = record { due = c.requires.waits; is_call = due.0; deep = due.1 } in
     dropped (environment grown (g.D.SourceDatabase.workspace c.args.db.now)) part (core_in c.args.run.now) c.args.i c.args.call.now
@@ -69,7 +70,7 @@ returns-in_default-clause-noted g c = noted_beside (noted_itself c.args.run.now)
 pub returns-in_default-clause-tried : goal.returns-in_default-clause-tried
 returns-in_default-clause-tried g c =
     let part = part_of c.args.world in
-    let due : IsDueOf part (core_in c.args.run.now) c.args.call.now Skips = subst (IsDueOf part (core_in c.args.run.now) c.args.call.now) c.in-Skips.is
+    let due : IsDueOf part (core_in c.args.run.now) c.args.i c.args.call.now Skips = subst (IsDueOf part (core_in c.args.run.now) c.args.i c.args.call.now) c.in-Skips.is
     c.requires.due in
     let missing : waiting_item c.args.call.now ≡ None = sym c.in_default.ensures.value in
     let there : waiting_item c.args.call.now ≡ Some due.0 = due.1 in
@@ -81,7 +82,7 @@ skip-requires-clause-of g c = sym c.in-Some.ensures.value
 pub skip-requires-clause-passed : goal.skip-requires-clause-passed
 skip-requires-clause-passed g c =
     let part = part_of c.args.world in
-    let due : IsDueOf part (core_in c.args.run.now) c.args.call.now Skips = subst (IsDueOf part (core_in c.args.run.now) c.args.call.now) c.in-Skips.is
+    let due : IsDueOf part (core_in c.args.run.now) c.args.i c.args.call.now Skips = subst (IsDueOf part (core_in c.args.run.now) c.args.i c.args.call.now) c.in-Skips.is
     c.requires.due in
     due.2
 
@@ -99,8 +100,8 @@ returns-in_default-builtin_impl-clause-noted g c = noted_beside (noted_itself c.
 pub returns-in_default-builtin_impl-clause-tried : goal.returns-in_default-builtin_impl-clause-tried
 returns-in_default-builtin_impl-clause-tried g c =
     let part = part_of c.args.world in
-    let due : IsDueOf part (core_in c.args.run.now) c.args.call.now (Derives c.in-Derives.makro) =
-    subst (IsDueOf part (core_in c.args.run.now) c.args.call.now) c.in-Derives.is c.requires.due in
+    let due : IsDueOf part (core_in c.args.run.now) c.args.i c.args.call.now (Derives c.in-Derives.makro) =
+    subst (IsDueOf part (core_in c.args.run.now) c.args.i c.args.call.now) c.in-Derives.is c.requires.due in
     absurd (has_impl c.in-Derives.makro c.args.call.now.kind due.0.builtin due.1 (sym c.in_default-builtin_impl.ensures.value))
 
 pub derive_builtin-requires-clause-in_range : goal.derive_builtin-requires-clause-in_range
@@ -109,8 +110,8 @@ derive_builtin-requires-clause-in_range g c = c.requires.ready.calls c.args.i c.
 pub derive_builtin-requires-clause-builtin : goal.derive_builtin-requires-clause-builtin
 derive_builtin-requires-clause-builtin g c =
     let part = part_of c.args.world in
-    let due : IsDueOf part (core_in c.args.run.now) c.args.call.now (Derives c.in-Derives.makro) =
-    subst (IsDueOf part (core_in c.args.run.now) c.args.call.now) c.in-Derives.is c.requires.due in
+    let due : IsDueOf part (core_in c.args.run.now) c.args.i c.args.call.now (Derives c.in-Derives.makro) =
+    subst (IsDueOf part (core_in c.args.run.now) c.args.i c.args.call.now) c.in-Derives.is c.requires.due in
     record { due = c.requires.waits; reaches = due.0.reaches; builtin = due.0.builtin; is = sym c.in-Some-builtin_impl.ensures.value }
 
 pub returns-in_err-derive_builtin-in-Derives-clause-many : goal.returns-in_err-derive_builtin-in-Derives-clause-many
@@ -131,8 +132,8 @@ returns-in_ok-derive_builtin-in-Derives-clause-tried g c = handled c.args.call.n
 pub drop_reached-requires : goal.drop_reached-requires
 drop_reached-requires g c =
     let part = part_of c.args.world in
-    let due : IsDueOf part (core_in c.args.run.now) c.args.call.now (Drops c.in-Drops.makro) =
-    subst (IsDueOf part (core_in c.args.run.now) c.args.call.now) c.in-Drops.is c.requires.due in
+    let due : IsDueOf part (core_in c.args.run.now) c.args.i c.args.call.now (Drops c.in-Drops.makro) =
+    subst (IsDueOf part (core_in c.args.run.now) c.args.i c.args.call.now) c.in-Drops.is c.requires.due in
     record {
       deep = record {
         called = record { due = c.requires.waits; active = due.0.active; reaches = due.0.reaches; expands = due.0.expands };
@@ -158,22 +159,19 @@ returns-in_ok-drop_reached-in-Drops-clause-tried g c = handled c.args.call.now c
 pub expand-requires-clause-called : goal.expand-requires-clause-called
 expand-requires-clause-called g c =
     let part = part_of c.args.world in
-    let due : IsDueOf part (core_in c.args.run.now) c.args.call.now (Reaches c.in-Reaches.makro) =
-    subst (IsDueOf part (core_in c.args.run.now) c.args.call.now) c.in-Reaches.is c.requires.due in
+    let due : IsDueOf part (core_in c.args.run.now) c.args.i c.args.call.now (Reaches c.in-Reaches.makro) =
+    subst (IsDueOf part (core_in c.args.run.now) c.args.i c.args.call.now) c.in-Reaches.is c.requires.due in
     record { due = c.requires.waits; active = due.0.active; reaches = due.0.reaches; expands = due.0.expands }
 
 pub expand-requires-clause-shallow : goal.expand-requires-clause-shallow
 expand-requires-clause-shallow g c =
     let part = part_of c.args.world in
-    let due : IsDueOf part (core_in c.args.run.now) c.args.call.now (Reaches c.in-Reaches.makro) =
-    subst (IsDueOf part (core_in c.args.run.now) c.args.call.now) c.in-Reaches.is c.requires.due in
+    let due : IsDueOf part (core_in c.args.run.now) c.args.i c.args.call.now (Reaches c.in-Reaches.makro) =
+    subst (IsDueOf part (core_in c.args.run.now) c.args.i c.args.call.now) c.in-Reaches.is c.requires.due in
     due.1
 
 pub expand-requires-clause-below : goal.expand-requires-clause-below
 expand-requires-clause-below g c = c.requires.below c.in-Reaches.makro c.in-Reaches.is
-
-pub returns-in_ok-expand-in-Reaches-clause-tried : goal.returns-in_ok-expand-in-Reaches-clause-tried
-returns-in_ok-expand-in-Reaches-clause-tried g c = handled c.args.call.now c.requires.waits.waiting c.in_ok-expand-in-Reaches.ensures.handled
 
 -- what is dropped or derived is noted whatever maps are finished
 pub returns-in_ok-drop_call-in-TooDeep-clause-noted : goal.returns-in_ok-drop_call-in-TooDeep-clause-noted
@@ -204,6 +202,5 @@ returns-in_err-derive_builtin-in-Derives-clause-unknown g c = λ h. absurd (know
 pub returns-in_err-drop_reached-in-Drops-clause-unknown : goal.returns-in_err-drop_reached-in-Drops-clause-unknown
 returns-in_err-drop_reached-in-Drops-clause-unknown g c = λ h. absurd (known_step _ _ c.from_residual-in_err-drop_reached-in-Drops.ensures.1 h)
 
-pub returns-in_err-expand-in-Reaches-clause-unknown : goal.returns-in_err-expand-in-Reaches-clause-unknown
-returns-in_err-expand-in-Reaches-clause-unknown g c = λ h.
-    record { at = at_rest (core_in c.args.run.now); steps = none; reaches = c.in_err-expand-in-Reaches.ensures.unknown (search rules) }
+pub returns-in-Reaches-clause-unknown : goal.returns-in-Reaches-clause-unknown
+returns-in-Reaches-clause-unknown g c = λ h. record { at = at_rest (core_in c.args.run.now); steps = none; reaches = c.expand.ensures.unknown h }

@@ -1,6 +1,6 @@
 -- What waits is expanded, unless the source that writes the macro has no number.
-use Rattle.std.proofs.Common.{◌∙◌, sym}
-use Rattle.hir_mod_collector.proofs.HirCollectorRules.Numbers.{known_step, refused_step, tables_stay}
+use Rattle.hir_mod_collector.proofs.HirCollectorRules.Numbers.{tables_stay}
+use Rattle.hir_mod_collector.specs.HirCollectorRules.UnknownSources.{of_itself}
 use Rattle.hir_macro_rounds.proofs.calls.expand.Goals as goal
 
 -- the source has none
@@ -14,16 +14,9 @@ returns-then-not-is_meant-clause-unknown g c = λ h. record {
   makro = c.args.makro;
   called = c.requires.called;
   shallow = c.requires.shallow;
-  unknown = c.is_meant.ensures.unknown c.if-not-is_meant.true;
+  unknown = of_itself (c.is_meant.ensures.unknown c.if-not-is_meant.true);
 }
 
 -- it has one
 pub expand_known-requires-clause-known : goal.expand_known-requires-clause-known
 expand_known-requires-clause-known g c = c.is_meant.ensures.meant c.if-not-is_meant.false
-
-pub returns-in_err-expand_known-clause-many : goal.returns-in_err-expand_known-clause-many
-returns-in_err-expand_known-clause-many g c =
-    λ h. c.in_err-expand_known.ensures.many (sym c.in_err-expand_known.was ∙ refused_step _ _ _ c.in_err-expand_known.was c.from_residual.ensures.1 h)
-
-pub returns-in_err-expand_known-clause-unknown : goal.returns-in_err-expand_known-clause-unknown
-returns-in_err-expand_known-clause-unknown g c = λ h. absurd (known_step _ _ c.from_residual.ensures.1 h)

@@ -161,6 +161,9 @@ pub returns-in-Rests-clause-kept : goal.returns-in-Rests-clause-kept
 returns-in-Rests-clause-kept g c =
     KeepsTables-trans c.args.locations.now c.rounds.locations c.take_turn.new.locations c.rounds.invariant.kept c.in_ok-next.ensures.kept
 
+pub returns-in-Rests-clause-placed : goal.returns-in-Rests-clause-placed
+returns-in-Rests-clause-placed g c = λ placed. c.in_ok-next.ensures.placed (c.rounds.invariant.placed placed)
+
 pub returns-in-Rests-clause-ok : goal.returns-in-Rests-clause-ok
 returns-in-Rests-clause-ok g c = λ grown k.
     let w = g.D.SourceDatabase.workspace c.args.db.now in

@@ -5,7 +5,6 @@ use Rattle.hir_mod_collector.proofs.HirTables.Growth.{KeepsTables-trans}
 use Rattle.hir_mod_collector.specs.HirNameres.WorldParts.{part_of}
 use Rattle.hir_mod_collector.specs.HirImportRules.Rest.{IsAtRest}
 use Rattle.hir_mod_collector.specs.HirCollectorRules.CallMoves.{IsGivenUp, IsReady}
-use Rattle.hir_mod_collector.specs.HirCollectorRules.Calls.{LeadsNowhere}
 use Rattle.hir_mod_collector.specs.HirCollectorRules.Derivation.{IsSpent}
 use Rattle.hir_mod_collector.specs.HirCollectorRules.Keys.{environment}
 use Rattle.hir_mod_collector.specs.HirCollectorRules.Moves.{OnceGrown}
@@ -15,6 +14,7 @@ use Rattle.hir_mod_collector.specs.HirCollectorImports.Waiting.{KeepsApart}
 use Rattle.hir_mod_collector.specs.HirCollectorRules.Workspace.{Workspace}
 use Rattle.hir_mod_collector.proofs.HirCollectorRules.Changes.{count-Steps, counts_on}
 use Rattle.hir_macro_calls.proofs.GivingUp.{none_waits_later}
+use Rattle.hir_macro_calls.proofs.Meeting.{rests_still}
 use Rattle.hir_mod_collector.proofs.HirCollectorRules.Moves.{Steps-append, spent_after, unknown_after}
 use Rattle.hir_mod_collector.proofs.HirCollectorRules.Numbers.{known_step, refused_step, tables_stay}
 use Rattle.hir_macro_calls.proofs.Queued.{none_handled, of_round, requeued_steps, rests_idle, rises_on}
@@ -101,7 +101,7 @@ returns-then-branch-clause-turned g c = λ grown k.
       none = none_waits_later now new c.args.first c.requires.ready.fated (Steps-append before (c.in_ok-try_calls.ensures.ok grown k)) c.requires.first;
     }
 
--- ---- nothing was: all is as it was where imports rest, and nothing that waits leads anywhere
+-- ---- nothing was: all is as it was where imports rest, but that calls met eager macros, and nothing that waits leads anywhere
 pub give_up-requires-clause-ready : goal.give_up-requires-clause-ready
 give_up-requires-clause-ready g c =
     let later = c.try_calls.new.locations in
@@ -119,7 +119,8 @@ give_up-requires-clause-rests g c =
     let idle = none_handled env part (core_in c.args.run.now) (core_in c.requeue.new.run) (core_in c.try_calls.new.run) c.in_ok-try_calls.field-0
     c.if-branch.false
     (c.in_ok-try_calls.ensures.tried later (tables_stay later)) in
-    subst (λ (core : Core). IsAtRest part (import_state (at_rest core))) (sym (idle.0 ∙ c.requeue.ensures.same)) c.requires.rests
+    rests_still part (core_in c.requeue.new.run) (core_in c.try_calls.new.run) idle.0
+    (subst (λ (core : Core). IsAtRest part (import_state (at_rest core))) (sym c.requeue.ensures.same) c.requires.rests)
 
 pub give_up-requires-clause-nowhere : goal.give_up-requires-clause-nowhere
 give_up-requires-clause-nowhere g c = λ j.
@@ -129,7 +130,7 @@ give_up-requires-clause-nowhere g c = λ j.
     let idle = none_handled env part (core_in c.args.run.now) (core_in c.requeue.new.run) (core_in c.try_calls.new.run) c.in_ok-try_calls.field-0
     c.if-branch.false
     (c.in_ok-try_calls.ensures.tried later (tables_stay later)) in
-    subst (λ (core : Core). LeadsNowhere part (at_rest core) j) (sym idle.0) (idle.1 j)
+    idle.1 j
 
 pub give_up-requires-clause-first : goal.give_up-requires-clause-first
 give_up-requires-clause-first g c =

@@ -10,6 +10,7 @@ use Rattle.hir_macro_calls.specs.Due.{IsDueOf}
 use Rattle.hir_mod_collector.specs.HirCollectorRules.State.{Core, at_rest, core_in}
 use Rattle.hir_mod_collector.specs.HirCollectorRules.Steps.{IsDue, none}
 use Rattle.hir_macro_calls.proofs.GivingUp.{nothing_due, nothing_waits}
+use Rattle.hir_macro_calls.proofs.Meeting.{meets_none}
 use Rattle.hir_mod_collector.proofs.HirCollectorState.Noted.{noted_beside, noted_itself}
 use Rattle.hir_macro_rounds.proofs.calls.try_call.Goals as goal
 
@@ -18,7 +19,7 @@ pub returns-in_default-clause-ok : goal.returns-in_default-clause-ok
 returns-in_default-clause-ok g c = λ grown k. none
 
 pub returns-in_default-clause-tried : goal.returns-in_default-clause-tried
-returns-in_default-clause-tried g c = left refl (nothing_waits (part_of c.args.world) (core_in c.args.run.now) c.args.i c.in_default.ensures.none)
+returns-in_default-clause-tried g c = left (meets_none _ _ refl) (nothing_waits (part_of c.args.world) (core_in c.args.run.now) c.args.i c.in_default.ensures.none)
 
 -- nothing is to be done about what waits there
 pub returns-in-Nothing-clause-ok : goal.returns-in-Nothing-clause-ok
@@ -26,8 +27,8 @@ returns-in-Nothing-clause-ok g c = λ grown k. none
 
 pub returns-in-Nothing-clause-tried : goal.returns-in-Nothing-clause-tried
 returns-in-Nothing-clause-tried g c =
-    left refl (nothing_due (part_of c.args.world) (core_in c.args.run.now) c.args.i c.in-Some.call.now c.in-Some.ensures.waits
-    (subst (IsDueOf (part_of c.args.world) (core_in c.args.run.now) c.in-Some.call.now) c.in-Nothing.is c.due_of-due.ensures.value))
+    left (meets_none _ _ refl) (nothing_due (part_of c.args.world) (core_in c.args.run.now) c.args.i c.in-Some.call.now c.in-Some.ensures.waits
+    (subst (IsDueOf (part_of c.args.world) (core_in c.args.run.now) c.args.i c.in-Some.call.now) c.in-Nothing.is c.due_of-due.ensures.value))
 
 pub returns-in_default-clause-noted : goal.returns-in_default-clause-noted
 returns-in_default-clause-noted g c = noted_beside (noted_itself c.args.run.now)
@@ -44,7 +45,7 @@ do_due-requires-clause-waits g c =
 
 pub do_due-requires-clause-due : goal.do_due-requires-clause-due
 do_due-requires-clause-due g c =
-    subst (λ (d : MacroDirective). IsDueOf (part_of c.args.world) (core_in c.args.run.now) d c.due_of-due.result) (sym c.in_ok-call.ensures.value)
+    subst (λ (d : MacroDirective). IsDueOf (part_of c.args.world) (core_in c.args.run.now) c.args.i d c.due_of-due.result) (sym c.in_ok-call.ensures.value)
     c.due_of-due.ensures.value
 
 pub do_due-requires-clause-below : goal.do_due-requires-clause-below

@@ -13,7 +13,7 @@ use Rattle.hir_mod_collector.specs.HirCollectorRules.Calls.{IsMeantAt, IsMeantCa
 use Rattle.hir_mod_collector.specs.HirCollectorRules.Keys.{environment}
 use Rattle.hir_mod_collector.specs.HirCollectorRules.Moves.{Walks, WalksTooFar}
 use Rattle.hir_mod_collector.specs.HirCollectorRules.Reports.{call_report}
-use Rattle.hir_mod_collector.specs.HirCollectorRules.State.{Core, at_rest, core_in, counted, with_map}
+use Rattle.hir_mod_collector.specs.HirCollectorRules.State.{Core, at_rest, core_in, counted, eager_at, with_map}
 use Rattle.hir_mod_collector.specs.HirCollectorRules.Steps.{FallsBack, falls_back}
 use Rattle.hir_mod_collector.specs.HirCollectorRules.TreeReads.{visits_behind}
 use Rattle.hir_collector_derives.proofs.CallSteps.{falls_back_at, given_up, kept_inside, kept_item, past_rule, went_on, went_too_far}
@@ -71,13 +71,10 @@ returns-in_err-walk_item-clause-many g c = λ h grown k.
     let may : FallsBack part (at_rest old) c.args.i d c.args.item.now kept.0 =
     falls_back_at env part old c.args.i d c.args.item.now kept.0 c.requires.rests c.requires.nowhere c.requires.first.first c.requires.waits c.requires.of
     kept.1 in
-    let report : c.unresolved_macro_call-told.result ≡ call_report old.map.id d =
-    rw (c.unresolved_macro_call-told.ensures.value, c.module_id-at.ensures.value, c.call_kind.ensures.value, c.in_ok-clone.ensures.value, c.path.ensures.value)
-    refl in
     let ended : Core = core_in c.end_call.new.self in
     let own : ended.map ≡ old.map = ap (λ (x : Core). x.map) c.end_call.ensures.value in
-    let tells : core_in c.tell.new.self ≡ with_map ended (with_diagnostic ended.map (call_report old.map.id d)) =
-    subst (λ (r : DefDiagnostic). core_in c.tell.new.self ≡ with_map ended (with_diagnostic ended.map r)) report c.in_ok-tell.ensures.ok in
+    let tells : core_in c.tell.new.self ≡ with_map ended (with_diagnostic ended.map (call_report part old.local old.map d (eager_at old c.args.i))) =
+    subst (λ (r : DefDiagnostic). core_in c.tell.new.self ≡ with_map ended (with_diagnostic ended.map r)) c.in_ok-told.ensures.value c.in_ok-tell.ensures.ok in
     went_too_far c.args.item.now kept.0 c.in_ok-site.site d c.in_ok-site.ensures.value kept.1
     (given_up env part old c.args.i d c.args.item.now kept.0 ended (core_in c.tell.new.self) (core_in c.tick.new.self) may c.end_call.ensures.value tells
     c.in_ok-tick.ensures.ok)
@@ -96,12 +93,9 @@ returns-clause-ok g c = λ grown k.
     let may : FallsBack part (at_rest old) c.args.i d c.args.item.now kept.0 =
     falls_back_at env part old c.args.i d c.args.item.now kept.0 c.requires.rests c.requires.nowhere c.requires.first.first c.requires.waits c.requires.of
     kept.1 in
-    let report : c.unresolved_macro_call-told.result ≡ call_report old.map.id d =
-    rw (c.unresolved_macro_call-told.ensures.value, c.module_id-at.ensures.value, c.call_kind.ensures.value, c.in_ok-clone.ensures.value, c.path.ensures.value)
-    refl in
     let ended : Core = core_in c.end_call.new.self in
-    let tells : core_in c.tell.new.self ≡ with_map ended (with_diagnostic ended.map (call_report old.map.id d)) =
-    subst (λ (r : DefDiagnostic). core_in c.tell.new.self ≡ with_map ended (with_diagnostic ended.map r)) report c.in_ok-tell.ensures.ok in
+    let tells : core_in c.tell.new.self ≡ with_map ended (with_diagnostic ended.map (call_report part old.local old.map d (eager_at old c.args.i))) =
+    subst (λ (r : DefDiagnostic). core_in c.tell.new.self ≡ with_map ended (with_diagnostic ended.map r)) c.in_ok-told.ensures.value c.in_ok-tell.ensures.ok in
     went_on c.args.item.now kept.0 c.in_ok-site.site d c.in_ok-site.ensures.value kept.1
     (given_up env part old c.args.i d c.args.item.now kept.0 ended (core_in c.tell.new.self) (core_in c.tick.new.self) may c.end_call.ensures.value tells
     c.in_ok-tick.ensures.ok)

@@ -9,5 +9,5 @@ use Rattle.hir_collector_state.proofs.def_collector.DefCollector.await_call.Goal
 pub returns-clause-noted : goal.returns-clause-noted
 returns-clause-noted c =
     let before : Run = the_view c.self.inside in
-    let after : Run = record before { calls = c.push.new.self.items; fates = c.push-2.new.self.items } in
+    let after : Run = record before { calls = c.push.new.self.items; fates = c.push-2.new.self.items; eager = c.push-3.new.self.items } in
     subst (λ (r : Run). IsNoted r after) c.self.view_is (noted_same before after refl refl refl (refl, refl, refl))

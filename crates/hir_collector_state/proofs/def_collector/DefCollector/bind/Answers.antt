@@ -27,6 +27,7 @@ bound_after r map names globs changed home name items in_map in_names edges brou
   taken = r.taken;
   calls = r.calls;
   fates = r.fates;
+  eager = r.eager;
   settled = r.settled;
   is_proc_macro = r.is_proc_macro;
   exported = r.exported;

@@ -36,9 +36,10 @@ returns c =
             taken = c.new-4.ensures.items i;
             calls = c.new-5.ensures.items i;
             fates = c.new-6.ensures.items i;
+            eager = c.new-7.ensures.items i;
             settled = 0;
             is_proc_macro = c.args.is_proc_macro;
-            exported = c.new-7.ensures.items i;
+            exported = c.new-8.ensures.items i;
             asked = asked i;
             count = 0;
           };

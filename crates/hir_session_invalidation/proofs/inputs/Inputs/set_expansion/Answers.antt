@@ -1,7 +1,7 @@
 -- What is kept of the other sources stays; of this one nothing is.
 use Rattle.std.proofs.Common.{ap, sym, Some}
 use Rattle.hir_session_state.specs.HirTables.SourcePlaces.{expansion, expansion_value}
-use Rattle.hir_session_state.specs.HirMessages.Edits.{entry_view}
+use Rattle.hir_session_sources.specs.EditValues.{entry_value}
 use Rattle.hir_session_state.specs.SourceEdits.{of_expansion}
 use Rattle.hir_session_state.specs.SourceTable.{workspace_in}
 use Rattle.hir_session_invalidation.proofs.Current.{current_over, dropped_current, dropped_same}
@@ -12,7 +12,7 @@ pub invariant_of-self : goal.invariant_of-self
 invariant_of-self c =
     on_either c.set_expansion.result c.set_expansion.ensures.ok c.set_expansion.ensures.err
     (λ becomes. current_over _ _ c.remove.new.self (ap (workspace_in c.self.inside.crates) (sym becomes))
-    (dropped_current c.self.inside.crates c.self.inside.sources (of_expansion (expansion_value c.args.key) (Some (entry_view c.args.entry))) c.self.inside.trees
+    (dropped_current c.self.inside.crates c.self.inside.sources (of_expansion (expansion_value c.args.key) (Some (entry_value c.args.entry))) c.self.inside.trees
     c.remove.new.self c.self.invariant
     c.remove.ensures.gone c.remove.ensures.others))
     (λ same. current_over _ _ c.remove.new.self (ap (workspace_in c.self.inside.crates) (sym same))

@@ -1,0 +1,13 @@
+-- Modules stay as they are.
+use Rattle.std.proofs.Common.{refl, subst}
+use Rattle.hir_collector_state.specs.contracts.def_collector.DefCollector.{the_view}
+use Rattle.hir_collector_rules.specs.State.{Run}
+use Rattle.hir_collector_state.specs.Waiting.{IsNoted}
+use Rattle.hir_collector_state.proofs.Noted.{noted_same}
+use Rattle.hir_collector_state.proofs.def_collector.DefCollector.meet_eager.Goals as goal
+
+pub returns-clause-noted : goal.returns-clause-noted
+returns-clause-noted c =
+    let before : Run = the_view c.self.inside in
+    let after : Run = record before { eager = c.add_at.new.eager.items } in
+    subst (λ (r : Run). IsNoted r after) c.self.view_is (noted_same before after refl refl refl (refl, refl, refl))
