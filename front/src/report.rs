@@ -13,9 +13,9 @@ use serde::Serialize;
 use serde_json::Value;
 
 use crate::question::names_of;
-use crate::syntax::Item;
-use crate::token::Span;
-use crate::unit::{numbered, paths_of, place_json, quoted, steps_of};
+use crate::syntax::{calls_among, Item};
+use crate::token::{Span, Token};
+use crate::unit::{numbered, paths_of, place_json, quoted, steps_of, Detail};
 use crate::workspace::{bytes_of, path_of_key, Key, Located, NotRun, Workspace};
 pub use answers::{Answer, Meaning};
 pub(crate) use associated::MOST_ALIASES;
@@ -277,6 +277,11 @@ impl Workspace {
         };
         let call = &it["call"];
         let mut span = located.span;
+        if let (Detail::Call(called), false) = (&located.node.detail, located.is_expanded) {
+            // It may be the path of a call in what this one is given.
+            let inner = if called.path.text == path { None } else { span_of_call(&called.input, path) };
+            span = inner.unwrap_or(span);
+        }
         if let (Some(number), Some(item), false) = (call["attr"].as_u64(), &located.node.item, located.is_expanded) {
             let spans = spans.entry((krate, Arc::as_ptr(item)));
             let spans = spans.or_insert_with(|| self.spans_of_attributes(krate, &located.file, item));
@@ -381,7 +386,7 @@ impl Workspace {
             for it in self.endless(number) {
                 report.diagnostics.push(Diagnostic {
                     place: place_at(&it.file, it.span),
-                    kind: "endless macro".to_owned(),
+                    kind: it.kind.to_owned(),
                     code: None,
                     message: it.message.clone(),
                     label: "it counts as one without items".to_owned(),
@@ -396,6 +401,14 @@ impl Workspace {
         report.elsewhere.sort();
         report.elsewhere.dedup();
     }
+}
+
+/// Where the path of a call stands among tokens, or in what other calls there are given.
+fn span_of_call(tokens: &[Token], path: &str) -> Option<Span> {
+    calls_among(tokens).into_iter().find_map(|(it, input)| match it.text == path {
+        true => Some(it.span),
+        false => span_of_call(input, path),
+    })
 }
 
 fn expanded_note(located: &Located) -> Vec<String> {

@@ -2,6 +2,7 @@
 //! was handed in the same as what the files say.
 
 mod associated;
+mod eager;
 mod expanded;
 mod expansions;
 mod files;
@@ -136,21 +137,24 @@ struct Expansion {
     is_unknown: bool,
     /// The file that it includes.
     file: Option<Key>,
+    /// The paths in place of items that the macro wants resolved first.
+    inner: Vec<String>,
 }
 
 impl Expansion {
     fn of(unit: Arc<Unit>, error: Option<String>, tokens: usize) -> Expansion {
         let given = Given::by(&unit.items);
-        Expansion { unit, source: None, error, tokens, given, is_endless: false, is_unknown: false, file: None }
+        let (is_endless, is_unknown, file, inner) = (false, false, None, Vec::new());
+        Expansion { unit, source: None, error, tokens, given, is_endless, is_unknown, file, inner }
     }
 }
 
 struct SentExpansion {
     built: Arc<Built>,
     line: String,
-    /// Whether it is one with an error, whether it stands for one that ends nowhere, and the derives that it was handed in
-    /// without.
-    state: (bool, bool, Derives),
+    /// Whether it is one with an error, whether it stands for one that ends nowhere, the derives that it was handed in
+    /// without, and the paths in place of items.
+    state: (bool, bool, Derives, Vec<String>),
 }
 
 #[derive(Default)]
@@ -166,7 +170,7 @@ struct CrateState {
     exported: HashMap<Arc<str>, Target>,
     /// The key of the expansion that a call took.
     taken: HashMap<Hash, String>,
-    /// The calls whose expansions end nowhere, and why.
+    /// The calls that count as ones without items, and why.
     endless: Vec<Endless>,
     /// These calls and those in their expansions.
     without_end: HashSet<Hash>,
@@ -203,9 +207,11 @@ pub(crate) enum Leads {
     Module(u32, Vec<String>),
 }
 
-/// A call that isn't expanded since it ends nowhere.
+/// A call that counts as one without items, of which the program doesn't tell.
 #[derive(Clone, Debug)]
 pub struct Endless {
+    /// `endless macro`, or `macro error` where it can't be expanded here but elsewhere.
+    pub kind: &'static str,
     /// The file in which it is written.
     pub file: Key,
     /// Where its path stands.
@@ -589,7 +595,7 @@ impl Workspace {
         self.states[krate as usize].resolved
     }
 
-    /// The calls of a crate that end nowhere.
+    /// The calls of a crate that count as ones without items.
     pub fn endless(&self, krate: u32) -> &[Endless] {
         &self.states[krate as usize].endless
     }
