@@ -130,7 +130,7 @@ impl Options {
     fn wanted(&self, path: &Path) -> Wanted {
         let features = self.features.iter().flat_map(|it| it.split([',', ' '])).filter(|it| !it.is_empty());
         Wanted {
-            path: self.manifest_path.clone().unwrap_or_else(|| path.to_owned()),
+            path: self.manifest_path.clone().unwrap_or_else(|| nearest_package(path)),
             packages: self.package.clone(),
             features: features.map(str::to_owned).collect(),
             all_features: self.all_features,
@@ -180,6 +180,13 @@ impl Options {
         bar.finish_and_clear();
         space
     }
+}
+
+/// The folder that is given. In place of the current one, where that has no `Cargo.toml`, it is the nearest above that does.
+fn nearest_package(path: &Path) -> PathBuf {
+    let here = std::env::current_dir().ok().filter(|_| path == Path::new("."));
+    let found = here.as_deref().and_then(|it| it.ancestors().find(|it| it.join("Cargo.toml").is_file()));
+    found.filter(|it| Some(*it) != here.as_deref()).unwrap_or(path).to_owned()
 }
 
 /// Shows how reading goes.

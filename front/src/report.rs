@@ -16,10 +16,10 @@ use crate::question::names_of;
 use crate::syntax::{calls_among, Item};
 use crate::token::{Span, Token};
 use crate::unit::{numbered, paths_of, place_json, quoted, steps_of, Detail};
-use crate::workspace::{bytes_of, path_of_key, Key, Located, NotRun, Workspace};
+use crate::workspace::{bytes_of, key_of, path_of_key, Key, Located, NotRun, Workspace};
 pub use answers::{Answer, Meaning};
 pub(crate) use associated::MOST_ALIASES;
-pub(crate) use imports::past_items;
+pub(crate) use imports::{past_items, Reached};
 use imports::{prefixes, Bound, Import};
 
 /// A place in a file.
@@ -60,6 +60,9 @@ pub struct Diagnostic {
     #[serde(skip)]
     pub related: Vec<(String, Place)>,
 }
+
+/// The number that rustc gives to the error that a name isn't visible.
+const PRIVATE: &str = "E0603";
 
 /// What isn't resolved in the crates that are asked for.
 #[derive(Debug, Default)]
@@ -315,8 +318,10 @@ impl Workspace {
         let mut notes = expanded_note(&located);
         let (code, message, label) = match kind {
             "unresolved module" => {
-                let files: Vec<&str> =
-                    it["candidates"].as_array().into_iter().flatten().filter_map(Value::as_str).collect();
+                let candidates = it["candidates"].as_array().into_iter().flatten().filter_map(Value::as_str);
+                let folder = path_of_key(&located.file).parent().map(Path::to_owned).unwrap_or_default();
+                let key = |it: &str| key_of(&folder.join(it)).ok();
+                let files: Vec<String> = candidates.filter_map(key).map(|it| shown(&path_of_key(&it))).collect();
                 notes.push(format!("to create the module `{name}`, create the file {}", files.join(" or ")));
                 (Some("E0583"), format!("file not found for module `{name}`"), "no such file".to_owned())
             }
@@ -446,6 +451,9 @@ impl Diagnostic {
             let label = if self.label.is_empty() { String::new() } else { format!(" {}", self.label) };
             text.push_str(&format!("{pad} {blue}|{off}\n{blue}{number} |{off} {before}{source}{after}\n"));
             text.push_str(&format!("{pad} {blue}|{off} {space}{red}{carets}{label}{off}\n"));
+        }
+        for (what, Place { file, line, column, .. }) in self.related.iter().filter(|_| self.code == Some(PRIVATE)) {
+            text.push_str(&format!("{pad} {blue}={off} {bold}note{off}: {what} is at {file}:{line}:{column}\n"));
         }
         for it in &self.notes {
             text.push_str(&format!("{pad} {blue}={off} {bold}note{off}: {it}\n"));

@@ -128,6 +128,16 @@ pub struct Built {
 }
 
 impl Built {
+    /// Paths in place of a unit.
+    pub fn of_paths(paths: &[String]) -> Built {
+        Built { json: serde_json::json!(paths).to_string(), ..Built::default() }
+    }
+
+    /// Whether it is paths in place of a unit.
+    pub fn is_of_paths(&self) -> bool {
+        self.json.starts_with('[')
+    }
+
     /// The node of a kind and an id.
     pub fn find(&self, kind: &str, id: Id) -> Option<&Node> {
         let kind = KINDS.iter().find(|it| **it == kind)?;

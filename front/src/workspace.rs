@@ -29,6 +29,7 @@ use serde_json::Value;
 use crate::macros::Rules;
 use crate::package::Crates;
 use crate::program::Program;
+use crate::report::Reached;
 use crate::syntax::{Call, MacroDefinition, Unit};
 use crate::token::{on_a_thread, Hash, Span, SyntaxError};
 use crate::unit::{Built, BuiltBlock, Derives, Given, Node};
@@ -275,8 +276,8 @@ pub struct Workspace {
     told: HashMap<u32, Arc<Value>>,
     /// The imports of a crate that name what an item doesn't hold.
     pub(crate) past_items: Since<Vec<PastItem>>,
-    /// How many names of the unresolved imports of a crate are reached, and what the last of these is.
-    pub(crate) reached: Since<Vec<(usize, Value)>>,
+    /// How far the unresolved imports of a crate are reached.
+    pub(crate) reached: Since<Vec<Reached>>,
     /// The modules of a crate with a glob, each with where that leads.
     pub(crate) globs: Since<Vec<(Vec<String>, Leads)>>,
     /// The texts of files by which, for what the program has, a report would be the same: their hashes, and by what that is

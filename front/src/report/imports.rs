@@ -6,7 +6,7 @@ use std::sync::Arc;
 use anyhow::Result;
 use serde_json::Value;
 
-use super::{expanded_note, place_at, question, Diagnostic, Report};
+use super::{expanded_note, place_at, question, Diagnostic, Meaning, Report, PRIVATE};
 use crate::question::{names_of, BUILTIN_TYPES};
 use crate::token::Span;
 use crate::unit::{Detail, Id, Leaf};
@@ -19,9 +19,19 @@ pub(super) struct Import {
     pub path: String,
     pub binds: Option<Arc<str>>,
     span: Span,
-    /// How many of its names are reached, and what the last of these is.
-    reached: usize,
+    /// How far its path is reached.
+    reached: Reached,
+}
+
+/// How far the path of an import is reached that isn't resolved.
+#[derive(Clone, Default)]
+pub(crate) struct Reached {
+    /// How many of its names are.
+    count: usize,
+    /// What the last of these is.
     last: Value,
+    /// What the next stands for in the module that the last one is, by namespace, where that isn't visible to the import.
+    hidden: Value,
 }
 
 /// Names in modules; `*` stands for any name.
@@ -185,7 +195,7 @@ impl Workspace {
         };
         let leaf = leaves.get(it["place"].as_u64()? as usize)?.clone();
         let span = if located.is_expanded { located.span } else { leaf.span };
-        Some(Import { krate, located, path: leaf.path, binds: leaf.binds, span, reached: 0, last: Value::Null })
+        Some(Import { krate, located, path: leaf.path, binds: leaf.binds, span, reached: Reached::default() })
     }
 
     /// Finds how far the paths of the imports go. Those of a crate are asked once after each time that it was resolved,
@@ -195,21 +205,24 @@ impl Workspace {
         for it in imports {
             of_crates.entry(it.krate).or_default().push(it);
         }
-        let mut due = Vec::new();
+        let (mut due, mut fresh) = (Vec::new(), Vec::new());
         for (krate, imports) in &mut of_crates {
             let times = self.times_resolved(*krate);
             let known = self.reached.get(krate).filter(|it| it.0 == times && it.1.len() == imports.len());
             if let Some((_, known)) = known {
-                for (import, (reached, last)) in imports.iter_mut().zip(known) {
-                    (import.reached, import.last) = (*reached, last.clone());
+                for (import, reached) in imports.iter_mut().zip(known) {
+                    import.reached = reached.clone();
                 }
                 continue;
             }
+            fresh.push(*krate);
             let is_old = self.crates.all[*krate as usize].edition == "2015";
             due.extend(imports.iter_mut().map(|it| (prefixes(&it.path, is_old), &mut **it)));
         }
         for count in 0.. {
-            due.retain(|(prefixes, it)| it.reached == count && prefixes.len() > count && !self.is_of_stub(&it.last));
+            due.retain(|(prefixes, it)| {
+                it.reached.count == count && prefixes.len() > count && !self.is_of_stub(&it.reached.last)
+            });
             if due.is_empty() {
                 break;
             }
@@ -227,13 +240,39 @@ impl Workspace {
             for ((_, import), at) in due.iter_mut().zip(whose) {
                 let found = &replies[at]["ok"]["types"]["def"];
                 if !found.is_null() && replies[at]["ok"]["stop"].is_null() {
-                    (import.reached, import.last) = (count + 1, found.clone());
+                    (import.reached.count, import.reached.last) = (count + 1, found.clone());
                 }
             }
         }
+        let due = of_crates.iter_mut().filter(|it| fresh.contains(it.0)).flat_map(|it| it.1.iter_mut());
+        self.find_hidden(due.map(|it| &mut **it).collect())?;
         for (krate, imports) in of_crates {
-            let reached = imports.into_iter().map(|it| (it.reached, it.last.clone())).collect();
+            let reached = imports.into_iter().map(|it| it.reached.clone()).collect();
             self.reached.insert(krate, (self.times_resolved(krate), reached));
+        }
+        Ok(())
+    }
+
+    /// Finds the names that aren't reached since they aren't visible to the imports. Each is asked in the module of which
+    /// it is one.
+    fn find_hidden(&mut self, imports: Vec<&mut Import>) -> Result<()> {
+        let mut asks = Vec::new();
+        let mut due = Vec::new();
+        for it in imports {
+            let names = names_of(&it.path);
+            let Some(name) = names.get(it.reached.count).filter(|it| *it != "*") else {
+                continue;
+            };
+            let known = it.reached.count > 0 && !self.is_of_stub(&it.reached.last);
+            if let Some((krate, module)) = self.module_of_definition(&it.reached.last).filter(|_| known) {
+                asks.push(question(krate, &module, &format!("self::{name}")));
+                due.push(it);
+            }
+        }
+        for (it, mut reply) in due.into_iter().zip(self.ask_all(&asks)?) {
+            if reply["ok"]["stop"].is_null() {
+                it.reached.hidden = reply["ok"].take();
+            }
         }
         Ok(())
     }
@@ -245,18 +284,18 @@ impl Workspace {
     }
 
     pub(super) fn is_unjudged(&self, it: &Import, bound: &Bound) -> bool {
-        self.is_of_stub(&it.last) || self.follows_from(it, bound)
+        self.is_of_stub(&it.reached.last) || self.follows_from(it, bound)
     }
 
     /// Whether the name that isn't reached is one of these.
     pub(super) fn follows_from(&self, it: &Import, bound: &Bound) -> bool {
         let names = names_of(&it.path);
-        let Some(name) = names.get(it.reached) else {
+        let Some(name) = names.get(it.reached.count) else {
             return false;
         };
-        let (krate, module) = match it.reached {
+        let (krate, module) = match it.reached.count {
             0 => (it.krate, it.located.module.clone()),
-            _ => match self.module_of_definition(&it.last) {
+            _ => match self.module_of_definition(&it.reached.last) {
                 Some(it) => it,
                 None => return false,
             },
@@ -270,18 +309,18 @@ impl Workspace {
 
     pub(super) fn import_diagnostic(&self, it: &Import) -> Diagnostic {
         let names = names_of(&it.path);
-        let missing = names.get(it.reached).cloned().unwrap_or_default();
-        let before = names[..it.reached.min(names.len())].join("::");
-        let label = match (it.reached, &*missing) {
+        let Reached { count, last, hidden } = &it.reached;
+        let missing = names.get(*count).cloned().unwrap_or_default();
+        let before = names[..(*count).min(names.len())].join("::");
+        let label = match (count, &*missing) {
             (0, _) => format!("no crate, module or item `{missing}` is in scope here"),
             (_, "*") => format!("`{before}` is neither a module nor an enum"),
-            _ if it.reached + 1 == names.len() => format!("no `{missing}` in `{before}`"),
+            _ if count + 1 == names.len() => format!("no `{missing}` in `{before}`"),
             _ => format!("could not find `{missing}` in `{before}`"),
         };
-        let (what, path, place) = self.described(&it.last);
-        let related = place.filter(|_| it.reached > 0).map(|it| (format!("{what} `{path}`"), it));
-        let related = related.into_iter().collect();
-        Diagnostic {
+        let (what, path, place) = self.described(last);
+        let related = place.filter(|_| *count > 0).map(|it| (format!("{what} `{path}`"), it));
+        let made = Diagnostic {
             place: place_at(&it.located.file, it.span),
             kind: "unresolved import".to_owned(),
             code: Some("E0432"),
@@ -289,7 +328,21 @@ impl Workspace {
             label,
             krate: self.crates.all[it.krate as usize].title.clone(),
             notes: expanded_note(&it.located),
-            related,
-        }
+            related: related.into_iter().collect(),
+        };
+        let hidden = ["types", "values", "macros"].into_iter().map(|it| &hidden[it]).find(|it| !it.is_null());
+        let hidden = hidden.map(|it| self.meaning("", it)).filter(|it| it.visibility != "pub");
+        let Some(Meaning { what, place, brought_by, visibility, .. }) = hidden else {
+            return made;
+        };
+        let (what, place) = match brought_by {
+            Some((_, place)) => (format!("{what} import"), Some(place)),
+            None => (what, place),
+        };
+        let message = format!("{what} `{missing}` is private");
+        let note = visibility.starts_with("in ").then(|| format!("it is visible {visibility}"));
+        let notes = made.notes.iter().cloned().chain(note).collect();
+        let related = place.map(|it| (format!("{what} `{missing}`"), it)).into_iter().collect();
+        Diagnostic { code: Some(PRIVATE), label: format!("private {what}"), message, notes, related, ..made }
     }
 }

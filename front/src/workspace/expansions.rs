@@ -99,13 +99,13 @@ impl Workspace {
         }
         let options = &self.crates.all[krate as usize].options;
         let without = Without { derives: left_out, associated: self.is_brief };
-        let built = Arc::new(build_without(&expansion.unit, options, &|_| None, without));
-        let error = expansion.error.as_ref().map_or(String::new(), |it| format!(",\"error\":{}", quoted(it)));
-        let set = match expansion.inner.is_empty() {
-            true => format!("\"unit\":{}{error}", built.json),
-            false => format!("\"inner\":{}", json!(expansion.inner)),
+        let (built, what) = match expansion.inner.is_empty() {
+            true => (build_without(&expansion.unit, options, &|_| None, without), "unit"),
+            false => (Built::of_paths(&expansion.inner), "inner"),
         };
-        let line = format!("{{\"do\":\"set expansion\",\"key\":{key},{set}}}");
+        let built = Arc::new(built);
+        let error = expansion.error.as_ref().map_or(String::new(), |it| format!(",\"error\":{}", quoted(it)));
+        let line = format!("{{\"do\":\"set expansion\",\"key\":{key},\"{what}\":{}{error}}}", built.json);
         lines.push(line.clone());
         self.type_names.add(&built);
         if let Some(it) = self.expansions.insert(key, SentExpansion { built: built.clone(), line, state }) {
