@@ -480,6 +480,11 @@ impl Workspace {
         Ok(crates.iter().map(|it| self.told[it].clone()).collect())
     }
 
+    /// Whether it is for reports alone.
+    pub(crate) fn is_brief(&self) -> bool {
+        self.is_brief
+    }
+
     /// Whether blocks are handed in.
     fn hands_in_blocks(&self) -> bool {
         self.takes_blocks && !self.is_brief

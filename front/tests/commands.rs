@@ -361,19 +361,21 @@ fn the_nearest_package() {
     assert!(text(&made.stdout).contains("struct shop::price::Price"), "{}", text(&made.stdout));
 }
 
-/// What is there but not visible, and where the file of a module is looked for.
+/// What is there but not visible or by another name, and where the file of a module is looked for.
 #[test]
 fn private_names_and_missing_files() {
     let folder = package(&[
         (
             "src/lib.rs",
             "mod a;\nmod none;\n#[path = \"../x/y.rs\"]\nmod other;\nuse a::f;\nuse a::b::S;\n\
-             pub use a::{g, T, U, V as W, m, c::*, nothing};\nuse self::a::d::{self, X};\n",
+             pub use a::{g, T, U, V as W, m, c::*, nothing};\nuse self::a::d::{self, X};\n\
+             use a::{Prise, tets::X as _, unsene};\nuse serde::Serialize;\nuse self::serde;\n",
         ),
         (
             "src/a.rs",
             "mod none;\nmod c {}\nmod b {\n    pub struct S;\n}\nfn f() {}\nfn g() {}\nuse self::b::S as T;\n\
-             pub(super) struct U;\nenum V {}\nmacro_rules! m { () => {} }\nmod d {\n    pub(in crate::a) struct X;\n}\n",
+             pub(super) struct U;\nenum V {}\nmacro_rules! m { () => {} }\nmod d {\n    pub(in crate::a) struct X;\n}\n\
+             pub struct Price;\npub mod test {}\nfn unseen() {}\n",
         ),
     ]);
     compare_run("private", folder.path(), &["check", "--no-std"]);

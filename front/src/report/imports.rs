@@ -9,8 +9,8 @@ use serde_json::Value;
 use super::{expanded_note, place_at, question, Diagnostic, Meaning, Report, PRIVATE};
 use crate::question::{names_of, BUILTIN_TYPES};
 use crate::token::Span;
-use crate::unit::{Detail, Id, Leaf};
-use crate::workspace::{Key, Leads, Located, PastItem, Workspace};
+use crate::unit::{steps_of, Detail, Id, Leaf};
+use crate::workspace::{Bound as BoundName, Key, Leads, Located, ModulePlace, PastItem, Workspace};
 
 /// An import that isn't resolved, while it is looked into.
 pub(super) struct Import {
@@ -32,6 +32,35 @@ pub(crate) struct Reached {
     last: Value,
     /// What the next stands for in the module that the last one is, by namespace, where that isn't visible to the import.
     hidden: Value,
+    /// A visible name of that module that is like the next.
+    similar: Option<Arc<str>>,
+}
+
+/// How many letters differ between two names, at most `most`: a letter more, one less, another one, or two in turn.
+fn distance(one: &[char], other: &[char], most: usize) -> Option<usize> {
+    let mut rows: [Vec<usize>; 3] = [Vec::new(), Vec::new(), (0..=other.len()).collect()];
+    for (at, letter) in one.iter().enumerate() {
+        rows.rotate_left(1);
+        let mut row = vec![at + 1];
+        for (to, it) in other.iter().enumerate() {
+            let least = (rows[1][to] + usize::from(letter != it)).min(rows[1][to + 1] + 1).min(row[to] + 1);
+            let are_swapped = at > 0 && to > 0 && one[at - 1] == *it && other[to - 1] == *letter;
+            row.push(if are_swapped { least.min(rows[0][to - 1] + 1) } else { least });
+        }
+        rows[2] = row;
+    }
+    rows[2].last().copied().filter(|it| *it <= most)
+}
+
+/// The name that is most like another, if one is: by few letters, in relation to its length, or but for capitals.
+fn most_similar<'a>(name: &str, names: impl Iterator<Item = &'a Arc<str>>) -> Option<&'a Arc<str>> {
+    let letters: Vec<char> = name.chars().collect();
+    let (most, lower) = (letters.len().max(3) / 3, name.to_lowercase());
+    let far = |it: &str| match it.to_lowercase() == lower {
+        true => Some(0),
+        false => distance(&letters, &it.chars().collect::<Vec<_>>(), most),
+    };
+    names.filter(|it| ***it != *name).filter_map(|it| Some((far(it)?, it))).min_by_key(|it| it.0).map(|it| it.1)
 }
 
 /// Names in modules; `*` stands for any name.
@@ -266,13 +295,31 @@ impl Workspace {
             let known = it.reached.count > 0 && !self.is_of_stub(&it.reached.last);
             if let Some((krate, module)) = self.module_of_definition(&it.reached.last).filter(|_| known) {
                 asks.push(question(krate, &module, &format!("self::{name}")));
-                due.push(it);
+                due.push((it, (krate, steps_of(&module))));
             }
         }
-        for (it, mut reply) in due.into_iter().zip(self.ask_all(&asks)?) {
+        let mut lacking = Vec::new();
+        for ((it, place), mut reply) in due.into_iter().zip(self.ask_all(&asks)?) {
             if reply["ok"]["stop"].is_null() {
                 it.reached.hidden = reply["ok"].take();
+            } else {
+                lacking.push((it, place));
             }
+        }
+        // Where edits are followed, a name that comes would change what is told.
+        if !self.is_brief() {
+            return Ok(());
+        }
+        let places: Vec<ModulePlace> = lacking.iter().map(|it| it.1.clone()).collect();
+        for ((it, _), scope) in lacking.into_iter().zip(self.scopes(&places)?) {
+            let names = names_of(&it.path);
+            let (at, is_last) = (steps_of(&it.located.module), it.reached.count + 1 == names.len());
+            let is_seen = |bound: &[Option<BoundName>; 3]| {
+                let them = bound.iter().take(if is_last { 3 } else { 1 });
+                them.flatten().any(|bound| bound.seen.at(it.krate, &at))
+            };
+            let seen = scope.names.iter().filter(|it| is_seen(&it.1)).map(|it| &it.0);
+            it.reached.similar = most_similar(&names[it.reached.count], seen).cloned();
         }
         Ok(())
     }
@@ -309,7 +356,7 @@ impl Workspace {
 
     pub(super) fn import_diagnostic(&self, it: &Import) -> Diagnostic {
         let names = names_of(&it.path);
-        let Reached { count, last, hidden } = &it.reached;
+        let Reached { count, last, hidden, similar } = &it.reached;
         let missing = names.get(*count).cloned().unwrap_or_default();
         let before = names[..(*count).min(names.len())].join("::");
         let label = match (count, &*missing) {
@@ -318,6 +365,12 @@ impl Workspace {
             _ if count + 1 == names.len() => format!("no `{missing}` in `{before}`"),
             _ => format!("could not find `{missing}` in `{before}`"),
         };
+        let mut notes = expanded_note(&it.located);
+        notes.extend(similar.iter().map(|it| format!("a similar name is there: `{it}`")));
+        let may_be_crate = names.len() > 1 && !matches!(&*missing, "crate" | "self" | "super");
+        if *count == 0 && may_be_crate && self.crates.all[it.krate as usize].edition != "2015" {
+            notes.push(format!("if the crate `{missing}` is wanted, add it to the dependencies in Cargo.toml"));
+        }
         let (what, path, place) = self.described(last);
         let related = place.filter(|_| *count > 0).map(|it| (format!("{what} `{path}`"), it));
         let made = Diagnostic {
@@ -327,7 +380,7 @@ impl Workspace {
             message: format!("unresolved import `{}`", it.path),
             label,
             krate: self.crates.all[it.krate as usize].title.clone(),
-            notes: expanded_note(&it.located),
+            notes,
             related: related.into_iter().collect(),
         };
         let hidden = ["types", "values", "macros"].into_iter().map(|it| &hidden[it]).find(|it| !it.is_null());
@@ -344,5 +397,34 @@ impl Workspace {
         let notes = made.notes.iter().cloned().chain(note).collect();
         let related = place.map(|it| (format!("{what} `{missing}`"), it)).into_iter().collect();
         Diagnostic { code: Some(PRIVATE), label: format!("private {what}"), message, notes, related, ..made }
+    }
+}
+
+#[cfg(test)]
+mod tests {
+    use super::*;
+
+    #[test]
+    fn names_that_are_similar() {
+        let names =
+            ["HashMap", "HashSet", "BTreeMap", "hash_map", "Price", "tax", "a", "b", "Été"].map(Arc::<str>::from);
+        for (name, wanted) in [
+            ("HashMpa", Some("HashMap")),
+            ("HashMa", Some("HashMap")),
+            ("HasMaps", Some("HashMap")),
+            ("HashSett", Some("HashSet")),
+            ("hashset", Some("HashSet")),
+            ("Hash_map", Some("hash_map")),
+            ("Rebate", None),
+            ("Prize", Some("Price")),
+            ("Prizes", Some("Price")),
+            ("tex", Some("tax")),
+            ("tx", Some("tax")),
+            ("xt", None),
+            ("été", Some("Été")),
+            ("HashMap", None),
+        ] {
+            assert_eq!(most_similar(name, names.iter()).map(|it| &**it), wanted, "{name}");
+        }
     }
 }

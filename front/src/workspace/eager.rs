@@ -157,21 +157,20 @@ fn text_of_literal(literal: &str) -> Option<String> {
     }
 }
 
+/// Whether a call gives calls to a macro that expands them first.
+pub(super) fn gives_calls(call: &Call, target: &Target) -> bool {
+    matches!(target.how, How::Builtin) && is_eager(&target.name) && !calls_among(&call.input).is_empty()
+}
+
 impl Workspace {
-    /// What a call in the expansions of `depth` others gives to a macro that expands the calls in it first. None of another
-    /// macro, and where there are no calls in it.
+    /// What such a call in the expansions of `depth` others gives.
     pub(super) fn eager_input(
         &mut self,
         krate: u32,
         call: &Call,
-        target: &Target,
         (depth, limit): (usize, usize),
         reach: &mut dyn FnMut(&mut Workspace, &str) -> Option<Target>,
-    ) -> Option<Input> {
-        let is_it = matches!(target.how, How::Builtin) && is_eager(&target.name);
-        if !is_it || calls_among(&call.input).is_empty() {
-            return None;
-        }
+    ) -> Input {
         let (inner, tokens, is_too_long, error) = (Vec::new(), 0, false, None);
         let mut reader = Reader { space: self, krate, limit, reach, inner, tokens, is_too_long, error };
         let input = opened(&call.input);
@@ -180,9 +179,9 @@ impl Workspace {
         let Reader { inner, is_too_long, error, .. } = reader;
         let error_of =
             || format!("the calls in what `{}!` is given don't end, or are more than {MOST_CALLS}", call.path.text);
-        Some(match is_too_long {
+        match is_too_long {
             true => Input { inner: Vec::new(), text: None, error: Some(error_of()) },
             false => Input { inner, text, error },
-        })
+        }
     }
 }

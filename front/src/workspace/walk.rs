@@ -6,7 +6,7 @@ use std::sync::Arc;
 
 use anyhow::Result;
 
-use super::eager::Input;
+use super::eager::{gives_calls, Input};
 use super::expansions::macro_question;
 use super::files::{broken, key_of, parse, path_of_key, Folder};
 use super::{Endless, Expansion, How, Key, NotRun, Target, Workspace};
@@ -332,7 +332,7 @@ impl Walk<'_> {
             (self.tokens, self.is_too_deep) = (0, false);
             self.outermost = call.path.span;
         }
-        let input = self.eager_input(call, &target, place);
+        let input = gives_calls(call, &target).then(|| self.eager_input(call, place));
         let mut in_body = NotRun::new();
         let not_run = if self.in_block { &mut in_body } else { &mut self.not_run };
         let expansion = self.space.expand(self.krate, call, &target, input.as_ref(), folder, not_run);
@@ -405,7 +405,7 @@ impl Walk<'_> {
     }
 
     /// What a call gives to a macro that expands the calls in it first.
-    fn eager_input(&mut self, call: &Call, target: &Target, place: &[String]) -> Option<Input> {
+    fn eager_input(&mut self, call: &Call, place: &[String]) -> Input {
         let chain = [&self.chain[..], &[call.identity]].concat();
         let Walk { space, scope, looked_up, calls, krate, limit, depth, in_block, .. } = self;
         let mut reach = |space: &mut Workspace, path: &str| {
@@ -422,7 +422,7 @@ impl Walk<'_> {
             space.states[*krate as usize].reached.entry(question).or_insert_with(|| found.clone());
             found
         };
-        space.eager_input(*krate, call, target, (*depth, *limit), &mut reach)
+        space.eager_input(*krate, call, (*depth, *limit), &mut reach)
     }
 
     /// Whether calls that have the key of an expansion are given the same.
