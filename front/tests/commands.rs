@@ -369,7 +369,7 @@ fn private_names_and_missing_files() {
             "src/lib.rs",
             "mod a;\nmod none;\n#[path = \"../x/y.rs\"]\nmod other;\nuse a::f;\nuse a::b::S;\n\
              pub use a::{g, T, U, V as W, m, c::*, nothing};\nuse self::a::d::{self, X};\n\
-             use a::{Prise, tets::X as _, unsene};\nuse serde::Serialize;\nuse self::serde;\n",
+             use a::{Prise, tets::X as _, unsene};\nuse serde::Serialize;\n",
         ),
         (
             "src/a.rs",

@@ -36,6 +36,9 @@ pub(crate) struct Reached {
     similar: Option<Arc<str>>,
 }
 
+/// As answers have them.
+const NAMESPACES: [&str; 3] = ["types", "values", "macros"];
+
 /// How many letters differ between two names, at most `most`: a letter more, one less, another one, or two in turn.
 fn distance(one: &[char], other: &[char], most: usize) -> Option<usize> {
     let mut rows: [Vec<usize>; 3] = [Vec::new(), Vec::new(), (0..=other.len()).collect()];
@@ -300,7 +303,8 @@ impl Workspace {
         }
         let mut lacking = Vec::new();
         for ((it, place), mut reply) in due.into_iter().zip(self.ask_all(&asks)?) {
-            if reply["ok"]["stop"].is_null() {
+            let is_there = NAMESPACES.iter().any(|of| !reply["ok"][of].is_null());
+            if is_there && reply["ok"]["stop"].is_null() {
                 it.reached.hidden = reply["ok"].take();
             } else {
                 lacking.push((it, place));
@@ -383,7 +387,7 @@ impl Workspace {
             notes,
             related: related.into_iter().collect(),
         };
-        let hidden = ["types", "values", "macros"].into_iter().map(|it| &hidden[it]).find(|it| !it.is_null());
+        let hidden = NAMESPACES.into_iter().map(|it| &hidden[it]).find(|it| !it.is_null());
         let hidden = hidden.map(|it| self.meaning("", it)).filter(|it| it.visibility != "pub");
         let Some(Meaning { what, place, brought_by, visibility, .. }) = hidden else {
             return made;
