@@ -51,8 +51,8 @@ struct Cli {
     show: usize,
 }
 
-/// What rustc says, the options that build scripts set, and how long it took.
-fn ask_rustc(cli: &Cli, target: &Path) -> Result<(String, HashMap<String, Vec<String>>, f64)> {
+/// What rustc says, and how long it took. What Cargo says of the build is written to a file.
+fn ask_rustc(cli: &Cli, target: &Path, built: &Path) -> Result<(String, f64)> {
     let run = |more: &[&str], last: &[&str]| {
         let mut command = Command::new(&cli.cargo);
         for it in &cli.config {
@@ -67,18 +67,10 @@ fn ask_rustc(cli: &Cli, target: &Path) -> Result<(String, HashMap<String, Vec<St
         }
         Ok(String::from_utf8_lossy(&ran.stdout).into_owned())
     };
-    let messages = run(&["--message-format", "json"], &[])?;
-    let mut options: HashMap<String, Vec<String>> = HashMap::new();
-    for it in messages.lines().filter_map(|it| serde_json::from_str::<Value>(it).ok()) {
-        if it["reason"] == "build-script-executed" {
-            let name = it["package_id"].as_str().unwrap_or_default().split([' ', '#']).next().unwrap_or_default();
-            let all = it["cfgs"].as_array().into_iter().flatten().filter_map(|it| it.as_str().map(str::to_owned));
-            options.entry(name.to_owned()).or_default().extend(all);
-        }
-    }
+    std::fs::write(built, run(&["--message-format", "json"], &[])?)?;
     let start = Instant::now();
     let tree = run(&[], &["-Zunpretty=hir-tree"])?;
-    Ok((tree, options, start.elapsed().as_secs_f64()))
+    Ok((tree, start.elapsed().as_secs_f64()))
 }
 
 /// The path that begins at a position of a text, where it stands on one line and without arguments.
@@ -226,24 +218,17 @@ fn compare(space: &mut Workspace, number: u32, asked: &[Asked]) -> Result<Compar
     Ok(made)
 }
 
-/// The crates of the package, with the options that build scripts set.
-fn crates_of(cli: &Cli, options: &HashMap<String, Vec<String>>) -> Result<Crates> {
-    let wanted = Wanted {
+/// The crates of the package, with what build scripts set and wrote.
+fn crates_of(cli: &Cli, built: PathBuf) -> Result<Crates> {
+    Crates::read(&Wanted {
         path: cli.path.clone(),
         packages: vec![cli.package.clone()],
         no_std: cli.no_std,
         std_sources: cli.std_sources.clone(),
         config: cli.config.clone(),
+        built: Some(built),
         ..Wanted::default()
-    };
-    let mut crates = Crates::read(&wanted)?;
-    for krate in &mut crates.all {
-        let package = krate.title.split(' ').next().unwrap_or_default().to_owned();
-        for it in options.get(&package).into_iter().flatten() {
-            krate.options.set(it);
-        }
-    }
-    Ok(crates)
+    })
 }
 
 fn main() -> Result<ExitCode> {
@@ -259,9 +244,10 @@ fn main() -> Result<ExitCode> {
     let target = cli.path.join("target/compare");
     std::fs::create_dir_all(&target)?;
     let target = target.canonicalize()?;
-    let (tree, options, seconds_of_rustc) = ask_rustc(&cli, &target)?;
+    let built = target.join("messages.json");
+    let (tree, seconds_of_rustc) = ask_rustc(&cli, &target, &built)?;
     let start = Instant::now();
-    let crates = crates_of(&cli, &options)?;
+    let crates = crates_of(&cli, built)?;
     let number = crates.all.iter().position(|it| it.is_asked && !it.title.contains(' ')).context("it has a library")?;
     let number = number as u32;
     let name = crates.all[number as usize].name.clone();

@@ -6,7 +6,7 @@ use std::time::{Duration, Instant};
 
 use anyhow::{bail, Context as _, Result};
 use cargo_nogsimat::kept::told::{Part, Told, ToldKeeper};
-use cargo_nogsimat::package::{Crates, Wanted};
+use cargo_nogsimat::package::{Crates, Krate, Wanted};
 use cargo_nogsimat::program::{self, VARIABLE};
 use cargo_nogsimat::question::{Context, Question};
 use cargo_nogsimat::report::{Answer, Diagnostic, Report, Texts};
@@ -108,6 +108,10 @@ struct Options {
     /// A condition that is set for the package besides, as `rustc --cfg` takes it
     #[arg(long, value_name = "SPEC")]
     cfg: Vec<String>,
+    /// What Cargo said of a build, by `cargo check --message-format json > FILE`: what build scripts set and wrote is taken
+    /// from there
+    #[arg(long, value_name = "FILE")]
+    built: Option<PathBuf>,
     /// Cargo fetches nothing (the default)
     #[arg(long)]
     offline: bool,
@@ -126,7 +130,7 @@ impl Options {
     fn wanted(&self, path: &Path) -> Wanted {
         let features = self.features.iter().flat_map(|it| it.split([',', ' '])).filter(|it| !it.is_empty());
         Wanted {
-            path: self.manifest_path.clone().unwrap_or_else(|| path.to_owned()),
+            path: self.manifest_path.clone().unwrap_or_else(|| nearest_package(path)),
             packages: self.package.clone(),
             features: features.map(str::to_owned).collect(),
             all_features: self.all_features,
@@ -136,6 +140,7 @@ impl Options {
             no_std: self.no_std,
             std_sources: self.std_sources.clone(),
             cfg: self.cfg.clone(),
+            built: self.built.clone(),
             config: self.config.clone(),
         }
     }
@@ -177,6 +182,13 @@ impl Options {
     }
 }
 
+/// The folder that is given. In place of the current one, where that has no `Cargo.toml`, it is the nearest above that does.
+fn nearest_package(path: &Path) -> PathBuf {
+    let here = std::env::current_dir().ok().filter(|_| path == Path::new("."));
+    let found = here.as_deref().and_then(|it| it.ancestors().find(|it| it.join("Cargo.toml").is_file()));
+    found.filter(|it| Some(*it) != here.as_deref()).unwrap_or(path).to_owned()
+}
+
 /// Shows how reading goes.
 fn shown_by(bar: &ProgressBar) -> impl Fn(&str, usize, usize) + Send + 'static {
     let shown = bar.clone();
@@ -211,6 +223,19 @@ fn time(it: Duration) -> String {
     }
 }
 
+/// The packages whose build scripts may bring what isn't found: those that are asked for, and those of which something
+/// isn't judged.
+fn build_scripts<'a>(space: &'a Workspace, report: &Report) -> Vec<&'a str> {
+    let is_open = |number: usize| space.open_modules(number as u32).next().is_some();
+    let may_bring = |(number, it): &(usize, &Krate)| {
+        it.is_asked && !report.diagnostics.is_empty() || report.unjudged > 0 && is_open(*number)
+    };
+    let all = space.crates.all.iter().enumerate().filter(|it| it.1.has_build_script && may_bring(it));
+    let mut titles: Vec<&str> = all.map(|it| &*it.1.title).collect();
+    titles.dedup();
+    titles
+}
+
 /// What is told besides diagnostics.
 fn summary(space: &Workspace, report: &Report) -> Vec<Part> {
     let counts = space.counts();
@@ -237,13 +262,11 @@ fn summary(space: &Workspace, report: &Report) -> Vec<Part> {
         };
         text.push_str(&format!("note: not judged: {count} into what isn't read{stub}\n"));
     }
-    let mut scripts: Vec<&str> =
-        space.crates.all.iter().filter(|it| it.is_asked && it.has_build_script).map(|it| &*it.title).collect();
-    scripts.dedup();
-    if !scripts.is_empty() && !report.diagnostics.is_empty() {
+    let scripts = build_scripts(space, report);
+    if !scripts.is_empty() {
         let names = scripts.join(", ");
         text.push_str(&format!(
-            "note: build scripts aren't run ({names}): --cfg sets the conditions that they would\n"
+            "note: build scripts aren't run ({names}): --built names what Cargo said of them, --cfg sets conditions\n"
         ));
     }
     match report.diagnostics.len() {

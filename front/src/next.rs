@@ -311,7 +311,9 @@ impl Workspace {
         }
         match self.locate(krate, &node).map(|it| it.node.detail) {
             Some(Detail::Derive(_)) => Style::Attribute,
-            Some(Detail::Builtin(name)) if expander_of(&name) != "builtin" => Style::Attribute,
+            Some(Detail::Builtin(name)) if matches!(expander_of(&name), "builtin_attr" | "builtin_derive") => {
+                Style::Attribute
+            }
             _ if is_exported => Style::Unknown,
             _ => Style::Bang,
         }

@@ -1,15 +1,18 @@
 //! Which crates there are: a package, what it depends on, and the standard library.
 
-use std::collections::{BTreeSet, HashMap, HashSet};
+use std::collections::{BTreeMap, BTreeSet, HashMap, HashSet};
 use std::path::{Path, PathBuf};
 use std::process::Command;
 use std::time::SystemTime;
 
 use anyhow::{bail, Context, Result};
-use cargo_metadata::{CargoOpt, DependencyKind, Metadata, MetadataCommand, Node, NodeDep, Package, PackageId, Target};
+use cargo_metadata::{
+    BuildScript, CargoOpt, DependencyKind, Metadata, MetadataCommand, Node, NodeDep, Package, PackageId, Target,
+};
 
 use crate::cfg::Options;
 use crate::kept::{configurations, environment, files_of_tool, Keeper};
+use crate::workspace::bytes_of;
 
 /// What is asked for on the command line.
 #[derive(Clone, Debug, Default)]
@@ -34,6 +37,8 @@ pub struct Wanted {
     pub std_sources: Option<PathBuf>,
     /// Further options of the packages that are asked for, as `rustc --cfg` takes them.
     pub cfg: Vec<String>,
+    /// What Cargo says of a build, as it does with `--message-format json`.
+    pub built: Option<PathBuf>,
     /// Configuration for Cargo, as `cargo --config` takes it.
     pub config: Vec<String>,
 }
@@ -51,13 +56,15 @@ pub struct Krate {
     pub root: PathBuf,
     /// The conditions that hold in it.
     pub options: Options,
+    /// What `env!` has in it, as far as Cargo sets that.
+    pub variables: BTreeMap<String, String>,
     /// The number, the name, and whether paths may begin with it.
     pub dependencies: Vec<(u32, String, bool)>,
     /// Whether it exports procedural macros.
     pub is_proc_macro: bool,
     /// Whether its diagnostics are told.
     pub is_asked: bool,
-    /// Whether its package has a build script.
+    /// Whether its package has a build script of which nothing is known.
     pub has_build_script: bool,
     /// Whether it is the stub of a crate of the standard library.
     pub is_stub: bool,
@@ -74,6 +81,35 @@ pub struct Crates {
     pub folder: PathBuf,
     /// What stands for the standard library, in words.
     pub std: String,
+}
+
+/// What a build script said and where it wrote.
+#[derive(Clone, Debug, Default)]
+struct Script {
+    /// The conditions that it set.
+    options: Vec<String>,
+    /// What `env!` has besides, with its folder as `OUT_DIR`.
+    variables: BTreeMap<String, String>,
+}
+
+/// What Cargo says of the build scripts that it ran, by packages.
+fn scripts_in(path: &Path) -> Result<HashMap<PackageId, Script>> {
+    let bytes = bytes_of(path).with_context(|| format!("{} can't be read", path.display()))?;
+    let text = String::from_utf8_lossy(&bytes);
+    let messages = text.lines().filter_map(|it| serde_json::from_str::<serde_json::Value>(it).ok());
+    let messages: Vec<_> = messages.filter(|it| it["reason"].is_string()).collect();
+    let mut scripts: HashMap<PackageId, Script> = HashMap::new();
+    for it in messages.iter().filter(|it| it["reason"] == "build-script-executed") {
+        let ran: BuildScript = serde_json::from_value(it.clone()).with_context(|| format!("{it}"))?;
+        let script = scripts.entry(ran.package_id).or_default();
+        script.options.extend(ran.cfgs);
+        script.variables.extend(ran.env);
+        script.variables.insert("OUT_DIR".to_owned(), ran.out_dir.into_string());
+    }
+    if messages.is_empty() {
+        bail!("{} has no messages of Cargo; `cargo check --message-format json` writes them", path.display());
+    }
+    Ok(scripts)
 }
 
 fn rustc_name() -> std::ffi::OsString {
@@ -282,13 +318,14 @@ impl Crates {
         let Crates { all, of_std, folder, std } = self;
         let mut made = vec![of_std.to_string(), folder.display().to_string(), std.clone()];
         for it in all {
-            let Krate { name, title, edition, root, options, dependencies, .. } = it;
+            let Krate { name, title, edition, root, options, variables, dependencies, .. } = it;
             let Krate { is_proc_macro, is_asked, has_build_script, is_stub, .. } = it;
             let flags = options.flags.iter().cloned();
             let mut options: Vec<String> = flags.chain(options.values.iter().map(|it| format!("{it:?}"))).collect();
             options.sort();
             let is = [is_proc_macro, is_asked, has_build_script, is_stub];
-            made.push(format!("{name} {title} {edition} {} {options:?} {dependencies:?} {is:?}", root.display()));
+            let root = root.display();
+            made.push(format!("{name} {title} {edition} {root} {options:?} {variables:?} {dependencies:?} {is:?}"));
         }
         made
     }
@@ -330,6 +367,7 @@ impl Crates {
                 edition: edition_of(&folder.join(name).join("Cargo.toml")),
                 root,
                 options: base.clone(),
+                variables: BTreeMap::new(),
                 dependencies: dependencies.iter().filter_map(named).collect(),
                 is_proc_macro: false,
                 is_asked: false,
@@ -353,12 +391,20 @@ impl Crates {
     ) -> Result<()> {
         let manifest = manifest.canonicalize().unwrap_or_else(|_| manifest.to_owned());
         let packages = Packages::find(wanted, &manifest, metadata)?;
+        let scripts = wanted.built.as_deref().map(scripts_in).transpose()?.unwrap_or_default();
         let mut libraries: HashMap<PackageId, u32> = HashMap::new();
         for id in packages.ordered() {
             let used = packages.used_by(&id).into_iter().filter(|it| !it.1.is_empty());
+            let script = scripts.get(&id).cloned();
+            let is_built = script.is_some();
+            let script = script.unwrap_or_default();
+            let mut options = packages.options_of(&id, wanted, base);
+            script.options.iter().for_each(|it| options.set(it));
             let shared = Shared {
                 package: &metadata[&id],
-                options: packages.options_of(&id, wanted, base),
+                options,
+                of_script: script.variables,
+                is_built,
                 dependencies: used.filter_map(|(id, name)| Some((*libraries.get(&id)?, name, true))).collect(),
                 is_asked: packages.asked.contains(&id),
                 has_tests: wanted.test,
@@ -376,7 +422,7 @@ impl Crates {
     /// Adds the crates of a package, its library first. Answers the number of that.
     fn targets(&mut self, shared: Shared, sysroot: &HashMap<String, u32>) -> Option<u32> {
         let Shared { package, options, dependencies, is_asked, .. } = &shared;
-        let has_build_script = package.targets.iter().any(|it| is_of_kind(it, &["custom-build"]));
+        let has_build_script = !shared.is_built && package.targets.iter().any(|it| is_of_kind(it, &["custom-build"]));
         let (library, others) = shared.targets();
         let mut own_library: Option<(u32, String)> = None;
         for target in library.into_iter().chain(others) {
@@ -401,6 +447,7 @@ impl Crates {
                 edition: target.edition.to_string(),
                 root: target.src_path.clone().into_std_path_buf(),
                 options: options.clone(),
+                variables: shared.variables(target),
                 dependencies,
                 is_proc_macro,
                 is_asked: *is_asked,
@@ -498,6 +545,10 @@ impl<'a> Packages<'a> {
 struct Shared<'a> {
     package: &'a Package,
     options: Options,
+    /// What `env!` has by its build script.
+    of_script: BTreeMap<String, String>,
+    /// Whether it is known what its build script set and wrote.
+    is_built: bool,
     dependencies: Vec<(u32, String, bool)>,
     is_asked: bool,
     /// Whether tests and examples are wanted of a package that is asked for.
@@ -505,6 +556,30 @@ struct Shared<'a> {
 }
 
 impl<'a> Shared<'a> {
+    /// What `env!` has in the crate of a target.
+    fn variables(&self, target: &Target) -> BTreeMap<String, String> {
+        let Package { name, version, manifest_path, .. } = self.package;
+        let folder = manifest_path.parent().map_or(String::new(), |it| it.to_string());
+        let mut made = self.of_script.clone();
+        for (variable, value) in [
+            ("CARGO_MANIFEST_DIR", folder),
+            ("CARGO_MANIFEST_PATH", manifest_path.to_string()),
+            ("CARGO_PKG_NAME", name.clone()),
+            ("CARGO_PKG_VERSION", version.to_string()),
+            ("CARGO_PKG_VERSION_MAJOR", version.major.to_string()),
+            ("CARGO_PKG_VERSION_MINOR", version.minor.to_string()),
+            ("CARGO_PKG_VERSION_PATCH", version.patch.to_string()),
+            ("CARGO_PKG_VERSION_PRE", version.pre.to_string()),
+            ("CARGO_CRATE_NAME", target.name.replace('-', "_")),
+        ] {
+            made.insert(variable.to_owned(), value);
+        }
+        if is_of_kind(target, &["bin"]) {
+            made.insert("CARGO_BIN_NAME".to_owned(), target.name.clone());
+        }
+        made
+    }
+
     /// The library, and the other targets that are read: none but of a package that is asked for.
     fn targets(&self) -> (Option<&'a Target>, Vec<&'a Target>) {
         let all = &self.package.targets;

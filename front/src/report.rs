@@ -13,13 +13,13 @@ use serde::Serialize;
 use serde_json::Value;
 
 use crate::question::names_of;
-use crate::syntax::Item;
-use crate::token::Span;
-use crate::unit::{numbered, paths_of, place_json, quoted, steps_of};
-use crate::workspace::{bytes_of, path_of_key, Key, Located, NotRun, Workspace};
+use crate::syntax::{calls_among, Item};
+use crate::token::{Span, Token};
+use crate::unit::{numbered, paths_of, place_json, quoted, steps_of, Detail};
+use crate::workspace::{bytes_of, key_of, path_of_key, Key, Located, NotRun, Workspace};
 pub use answers::{Answer, Meaning};
 pub(crate) use associated::MOST_ALIASES;
-pub(crate) use imports::past_items;
+pub(crate) use imports::{past_items, Reached};
 use imports::{prefixes, Bound, Import};
 
 /// A place in a file.
@@ -60,6 +60,9 @@ pub struct Diagnostic {
     #[serde(skip)]
     pub related: Vec<(String, Place)>,
 }
+
+/// The number that rustc gives to the error that a name isn't visible.
+const PRIVATE: &str = "E0603";
 
 /// What isn't resolved in the crates that are asked for.
 #[derive(Debug, Default)]
@@ -277,6 +280,11 @@ impl Workspace {
         };
         let call = &it["call"];
         let mut span = located.span;
+        if let (Detail::Call(called), false) = (&located.node.detail, located.is_expanded) {
+            // It may be the path of a call in what this one is given.
+            let inner = if called.path.text == path { None } else { span_of_call(&called.input, path) };
+            span = inner.unwrap_or(span);
+        }
         if let (Some(number), Some(item), false) = (call["attr"].as_u64(), &located.node.item, located.is_expanded) {
             let spans = spans.entry((krate, Arc::as_ptr(item)));
             let spans = spans.or_insert_with(|| self.spans_of_attributes(krate, &located.file, item));
@@ -310,8 +318,10 @@ impl Workspace {
         let mut notes = expanded_note(&located);
         let (code, message, label) = match kind {
             "unresolved module" => {
-                let files: Vec<&str> =
-                    it["candidates"].as_array().into_iter().flatten().filter_map(Value::as_str).collect();
+                let candidates = it["candidates"].as_array().into_iter().flatten().filter_map(Value::as_str);
+                let folder = path_of_key(&located.file).parent().map(Path::to_owned).unwrap_or_default();
+                let key = |it: &str| key_of(&folder.join(it)).ok();
+                let files: Vec<String> = candidates.filter_map(key).map(|it| shown(&path_of_key(&it))).collect();
                 notes.push(format!("to create the module `{name}`, create the file {}", files.join(" or ")));
                 (Some("E0583"), format!("file not found for module `{name}`"), "no such file".to_owned())
             }
@@ -381,7 +391,7 @@ impl Workspace {
             for it in self.endless(number) {
                 report.diagnostics.push(Diagnostic {
                     place: place_at(&it.file, it.span),
-                    kind: "endless macro".to_owned(),
+                    kind: it.kind.to_owned(),
                     code: None,
                     message: it.message.clone(),
                     label: "it counts as one without items".to_owned(),
@@ -396,6 +406,14 @@ impl Workspace {
         report.elsewhere.sort();
         report.elsewhere.dedup();
     }
+}
+
+/// Where the path of a call stands among tokens, or in what other calls there are given.
+fn span_of_call(tokens: &[Token], path: &str) -> Option<Span> {
+    calls_among(tokens).into_iter().find_map(|(it, input)| match it.text == path {
+        true => Some(it.span),
+        false => span_of_call(input, path),
+    })
 }
 
 fn expanded_note(located: &Located) -> Vec<String> {
@@ -433,6 +451,9 @@ impl Diagnostic {
             let label = if self.label.is_empty() { String::new() } else { format!(" {}", self.label) };
             text.push_str(&format!("{pad} {blue}|{off}\n{blue}{number} |{off} {before}{source}{after}\n"));
             text.push_str(&format!("{pad} {blue}|{off} {space}{red}{carets}{label}{off}\n"));
+        }
+        for (what, Place { file, line, column, .. }) in self.related.iter().filter(|_| self.code == Some(PRIVATE)) {
+            text.push_str(&format!("{pad} {blue}={off} {bold}note{off}: {what} is at {file}:{line}:{column}\n"));
         }
         for it in &self.notes {
             text.push_str(&format!("{pad} {blue}={off} {bold}note{off}: {it}\n"));

@@ -9,6 +9,7 @@ mod paths;
 
 use std::sync::Arc;
 
+use blocks::is_of_expression;
 pub use blocks::{statements_of, Block};
 pub use paths::{parts, path_of_type, traits_of_bounds, ImplHead};
 
@@ -321,6 +322,32 @@ pub fn path_of(tokens: &[Token]) -> Option<Path> {
     cursor.is_at_end().then_some(path)
 }
 
+/// The macro call that the tokens are, if they are one: its path, and what it is given.
+pub fn call_of(tokens: &[Token]) -> Option<(Path, &Tokens)> {
+    let mut cursor = Cursor::new(tokens, Span::default());
+    let call = cursor.called()?;
+    cursor.is_at_end().then_some(call)
+}
+
+/// The macro calls among the tokens, also those in groups, but not those in what a call is given.
+pub fn calls_among(tokens: &[Token]) -> Vec<(Path, &Tokens)> {
+    let mut cursor = Cursor::new(tokens, Span::default());
+    let mut made = Vec::new();
+    while let Some(token) = cursor.peek() {
+        if let Some(it) = cursor.called() {
+            made.push(it);
+            continue;
+        }
+        if let Kind::Group(_, inner) = &token.kind {
+            made.extend(calls_among(inner));
+        }
+        if cursor.path().is_none() {
+            cursor.at += 1;
+        }
+    }
+    made
+}
+
 /// The parts between commas that stand in no group.
 pub fn comma_separated(tokens: &[Token]) -> Vec<&[Token]> {
     let mut parts: Vec<&[Token]> = tokens.split(|it| it.is(",")).collect();
@@ -448,6 +475,19 @@ impl<'a> Cursor<'a> {
             text.push_str("::");
         }
         Some(Path { text, span: Span { start: start.start, end: end.end } })
+    }
+
+    /// A macro call where an expression stands. Nothing is taken where there is none.
+    fn called(&mut self) -> Option<(Path, &'a Tokens)> {
+        let from = self.at;
+        let found = self.path().filter(|it| self.sees("!") && !is_of_expression(&it.text));
+        let input = self.ahead(1).map(|it| &it.kind);
+        if let (Some(path), Some(Kind::Group(_, input))) = (found, input) {
+            self.at += 2;
+            return Some((path, input));
+        }
+        self.at = from;
+        None
     }
 
     /// Attributes in front of an item, or at the top of what the items stand in.

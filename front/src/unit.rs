@@ -19,7 +19,7 @@ use crate::syntax::{
 use crate::token::{opened, words_of, Delimiter, Hash, Kind, Span, Token};
 use attributes::{builtin_name, is_kept, names_json, write_attributes};
 
-pub(crate) use attributes::expander_of;
+pub(crate) use attributes::{expander_of, is_eager};
 pub use attributes::{is_builtin, is_enabled, may_be_macro, numbered, paths_of, text_attribute};
 pub(crate) use blocks::steps_from;
 pub use blocks::{build_blocks, place_json, steps_of, BuiltBlock, Known, Step};
@@ -128,6 +128,16 @@ pub struct Built {
 }
 
 impl Built {
+    /// Paths in place of a unit.
+    pub fn of_paths(paths: &[String]) -> Built {
+        Built { json: serde_json::json!(paths).to_string(), ..Built::default() }
+    }
+
+    /// Whether it is paths in place of a unit.
+    pub fn is_of_paths(&self) -> bool {
+        self.json.starts_with('[')
+    }
+
     /// The node of a kind and an id.
     pub fn find(&self, kind: &str, id: Id) -> Option<&Node> {
         let kind = KINDS.iter().find(|it| **it == kind)?;

@@ -2,6 +2,7 @@
 //! was handed in the same as what the files say.
 
 mod associated;
+mod eager;
 mod expanded;
 mod expansions;
 mod files;
@@ -28,6 +29,7 @@ use serde_json::Value;
 use crate::macros::Rules;
 use crate::package::Crates;
 use crate::program::Program;
+use crate::report::Reached;
 use crate::syntax::{Call, MacroDefinition, Unit};
 use crate::token::{on_a_thread, Hash, Span, SyntaxError};
 use crate::unit::{Built, BuiltBlock, Derives, Given, Node};
@@ -136,21 +138,24 @@ struct Expansion {
     is_unknown: bool,
     /// The file that it includes.
     file: Option<Key>,
+    /// The paths in place of items that the macro wants resolved first.
+    inner: Vec<String>,
 }
 
 impl Expansion {
     fn of(unit: Arc<Unit>, error: Option<String>, tokens: usize) -> Expansion {
         let given = Given::by(&unit.items);
-        Expansion { unit, source: None, error, tokens, given, is_endless: false, is_unknown: false, file: None }
+        let (is_endless, is_unknown, file, inner) = (false, false, None, Vec::new());
+        Expansion { unit, source: None, error, tokens, given, is_endless, is_unknown, file, inner }
     }
 }
 
 struct SentExpansion {
     built: Arc<Built>,
     line: String,
-    /// Whether it is one with an error, whether it stands for one that ends nowhere, and the derives that it was handed in
-    /// without.
-    state: (bool, bool, Derives),
+    /// Whether it is one with an error, whether it stands for one that ends nowhere, the derives that it was handed in
+    /// without, and the paths in place of items.
+    state: (bool, bool, Derives, Vec<String>),
 }
 
 #[derive(Default)]
@@ -166,7 +171,7 @@ struct CrateState {
     exported: HashMap<Arc<str>, Target>,
     /// The key of the expansion that a call took.
     taken: HashMap<Hash, String>,
-    /// The calls whose expansions end nowhere, and why.
+    /// The calls that count as ones without items, and why.
     endless: Vec<Endless>,
     /// These calls and those in their expansions.
     without_end: HashSet<Hash>,
@@ -203,9 +208,11 @@ pub(crate) enum Leads {
     Module(u32, Vec<String>),
 }
 
-/// A call that isn't expanded since it ends nowhere.
+/// A call that counts as one without items, of which the program doesn't tell.
 #[derive(Clone, Debug)]
 pub struct Endless {
+    /// `endless macro`, or `macro error` where it can't be expanded here but elsewhere.
+    pub kind: &'static str,
     /// The file in which it is written.
     pub file: Key,
     /// Where its path stands.
@@ -269,8 +276,8 @@ pub struct Workspace {
     told: HashMap<u32, Arc<Value>>,
     /// The imports of a crate that name what an item doesn't hold.
     pub(crate) past_items: Since<Vec<PastItem>>,
-    /// How many names of the unresolved imports of a crate are reached, and what the last of these is.
-    pub(crate) reached: Since<Vec<(usize, Value)>>,
+    /// How far the unresolved imports of a crate are reached.
+    pub(crate) reached: Since<Vec<Reached>>,
     /// The modules of a crate with a glob, each with where that leads.
     pub(crate) globs: Since<Vec<(Vec<String>, Leads)>>,
     /// The texts of files by which, for what the program has, a report would be the same: their hashes, and by what that is
@@ -473,6 +480,11 @@ impl Workspace {
         Ok(crates.iter().map(|it| self.told[it].clone()).collect())
     }
 
+    /// Whether it is for reports alone.
+    pub(crate) fn is_brief(&self) -> bool {
+        self.is_brief
+    }
+
     /// Whether blocks are handed in.
     fn hands_in_blocks(&self) -> bool {
         self.takes_blocks && !self.is_brief
@@ -589,7 +601,7 @@ impl Workspace {
         self.states[krate as usize].resolved
     }
 
-    /// The calls of a crate that end nowhere.
+    /// The calls of a crate that count as ones without items.
     pub fn endless(&self, krate: u32) -> &[Endless] {
         &self.states[krate as usize].endless
     }

@@ -6,6 +6,7 @@ mod common;
 mod completion;
 mod damage;
 mod derives;
+mod eager;
 mod editors;
 mod edits;
 mod handed_in;

@@ -348,6 +348,39 @@ fn bad_files() {
     compare_run("bad-files", folder.path(), &["check", "--no-std"]);
 }
 
+/// Without a path it is the package of the folder, or of the nearest above, as with Cargo.
+#[test]
+fn the_nearest_package() {
+    let folder = market();
+    for (below, words) in [("shop/src/report", &["check"][..]), ("shop/src", &["check", "."]), ("shop", &["check"])] {
+        let made = run(&folder.path().join(below), &[words, &["--no-std"]].concat());
+        assert_eq!(made.status.code(), Some(1), "{below}: {}", text(&made.stderr));
+        assert!(text(&made.stdout).contains("1 error in shop"), "{below}: {}", text(&made.stdout));
+    }
+    let made = run(&folder.path().join("shop/src"), &["resolve", "Price", "--at", "shop::all", "--no-std"]);
+    assert!(text(&made.stdout).contains("struct shop::price::Price"), "{}", text(&made.stdout));
+}
+
+/// What is there but not visible or by another name, and where the file of a module is looked for.
+#[test]
+fn private_names_and_missing_files() {
+    let folder = package(&[
+        (
+            "src/lib.rs",
+            "mod a;\nmod none;\n#[path = \"../x/y.rs\"]\nmod other;\nuse a::f;\nuse a::b::S;\n\
+             pub use a::{g, T, U, V as W, m, c::*, nothing};\nuse self::a::d::{self, X};\n\
+             use a::{Prise, tets::X as _, unsene};\nuse serde::Serialize;\n",
+        ),
+        (
+            "src/a.rs",
+            "mod none;\nmod c {}\nmod b {\n    pub struct S;\n}\nfn f() {}\nfn g() {}\nuse self::b::S as T;\n\
+             pub(super) struct U;\nenum V {}\nmacro_rules! m { () => {} }\nmod d {\n    pub(in crate::a) struct X;\n}\n\
+             pub struct Price;\npub mod test {}\nfn unseen() {}\n",
+        ),
+    ]);
+    compare_run("private", folder.path(), &["check", "--no-std"]);
+}
+
 /// Modules that lead back to a file around them, or that are too many: one knows files by what links lead to.
 #[cfg(unix)]
 #[test]

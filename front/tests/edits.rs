@@ -76,13 +76,16 @@ fn what_is_asked_after_an_edit() {
     let krate = space.crates.all.iter().position(|it| it.name == "above").unwrap();
     let given = |word: &str| log.lines().filter(|it| it.starts_with(&format!("{{\"do\":\"{word}\""))).count();
     assert_eq!([given("set file"), given("refresh"), given("diagnostics")], [1, 1, 1], "{log}");
-    let resolves: Vec<&str> = log.lines().filter(|it| it.starts_with("{\"do\":\"resolve\"")).collect();
-    assert!(resolves.iter().all(|it| it.contains(&format!("\"at\":[{krate}]"))), "{log}");
-    let mut paths: Vec<&str> =
-        resolves.iter().filter_map(|it| it.split("\"path\":\"").nth(1)?.strip_suffix("\"}")).collect();
-    paths.sort_unstable();
-    // How far the two imports that the program doesn't resolve are reached, where the glob leads, and what an enum may lack.
-    assert_eq!(paths, ["E::A", "E::B", "below", "below::m", "std"]);
+    let mut asked: Vec<&str> = log.lines().filter_map(|it| it.strip_prefix("{\"do\":\"resolve\",\"at\":")).collect();
+    asked.sort_unstable();
+    // How far the two imports that the program doesn't resolve are reached, whether the name that isn't is private there,
+    // where the glob leads, and what an enum may lack.
+    let below = space.crates.all.iter().position(|it| it.name == "below").unwrap();
+    let mut wanted: Vec<String> =
+        ["E::A", "E::B", "below", "below::m", "std"].map(|it| format!("[{krate}],\"path\":\"{it}\"}}")).into();
+    wanted.push(format!("[{below}],\"path\":\"self::Neither\"}}"));
+    wanted.sort_unstable();
+    assert_eq!(asked, wanted);
 }
 
 /// A package with a program that keeps its commands in a file, and those that it is given by `check`.

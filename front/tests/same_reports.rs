@@ -191,3 +191,23 @@ fn random_edits_of_the_example() {
     }
     assert!(by_look_ups > 60, "{by_look_ups}");
 }
+
+/// What calls are given is looked up too, as the name of a file that another macro writes.
+#[test]
+fn paths_of_calls_in_what_others_are_given() {
+    let root = "mod a;\ninclude!(concat!(\"one\", name!()));\n";
+    let a = "macro_rules! m { () => { \".in\" } }\npub(crate) use m as end;\n";
+    let folder = package(&[("src/lib.rs", root), ("src/a.rs", a), ("src/one.in", "pub struct S;\n")]);
+    let mut spaces = [open(folder.path()), open(folder.path())];
+    let path = folder.path().join("src/lib.rs").canonicalize().unwrap();
+    for (more, wanted) in [
+        ("use a::end;\n", BY_LOOK_UPS),
+        ("use a::end as name;\n", None),
+        ("use a::end as concat;\n", None),
+        ("use a::end as name; use S as T;\n", None),
+        ("fn other() {}\n", BY_NAMES),
+    ] {
+        assert_eq!(known(&mut spaces, &path, &format!("{root}{more}"), more), wanted, "{more}");
+        spaces.iter_mut().for_each(|it| drop(it.update_text(&path, root).unwrap()));
+    }
+}

@@ -6,11 +6,11 @@ use std::sync::Arc;
 use anyhow::Result;
 use serde_json::Value;
 
-use super::{expanded_note, place_at, question, Diagnostic, Report};
+use super::{expanded_note, place_at, question, Diagnostic, Meaning, Report, PRIVATE};
 use crate::question::{names_of, BUILTIN_TYPES};
 use crate::token::Span;
-use crate::unit::{Detail, Id, Leaf};
-use crate::workspace::{Key, Leads, Located, PastItem, Workspace};
+use crate::unit::{steps_of, Detail, Id, Leaf};
+use crate::workspace::{Bound as BoundName, Key, Leads, Located, ModulePlace, PastItem, Workspace};
 
 /// An import that isn't resolved, while it is looked into.
 pub(super) struct Import {
@@ -19,9 +19,51 @@ pub(super) struct Import {
     pub path: String,
     pub binds: Option<Arc<str>>,
     span: Span,
-    /// How many of its names are reached, and what the last of these is.
-    reached: usize,
+    /// How far its path is reached.
+    reached: Reached,
+}
+
+/// How far the path of an import is reached that isn't resolved.
+#[derive(Clone, Default)]
+pub(crate) struct Reached {
+    /// How many of its names are.
+    count: usize,
+    /// What the last of these is.
     last: Value,
+    /// What the next stands for in the module that the last one is, by namespace, where that isn't visible to the import.
+    hidden: Value,
+    /// A visible name of that module that is like the next.
+    similar: Option<Arc<str>>,
+}
+
+/// As answers have them.
+const NAMESPACES: [&str; 3] = ["types", "values", "macros"];
+
+/// How many letters differ between two names, at most `most`: a letter more, one less, another one, or two in turn.
+fn distance(one: &[char], other: &[char], most: usize) -> Option<usize> {
+    let mut rows: [Vec<usize>; 3] = [Vec::new(), Vec::new(), (0..=other.len()).collect()];
+    for (at, letter) in one.iter().enumerate() {
+        rows.rotate_left(1);
+        let mut row = vec![at + 1];
+        for (to, it) in other.iter().enumerate() {
+            let least = (rows[1][to] + usize::from(letter != it)).min(rows[1][to + 1] + 1).min(row[to] + 1);
+            let are_swapped = at > 0 && to > 0 && one[at - 1] == *it && other[to - 1] == *letter;
+            row.push(if are_swapped { least.min(rows[0][to - 1] + 1) } else { least });
+        }
+        rows[2] = row;
+    }
+    rows[2].last().copied().filter(|it| *it <= most)
+}
+
+/// The name that is most like another, if one is: by few letters, in relation to its length, or but for capitals.
+fn most_similar<'a>(name: &str, names: impl Iterator<Item = &'a Arc<str>>) -> Option<&'a Arc<str>> {
+    let letters: Vec<char> = name.chars().collect();
+    let (most, lower) = (letters.len().max(3) / 3, name.to_lowercase());
+    let far = |it: &str| match it.to_lowercase() == lower {
+        true => Some(0),
+        false => distance(&letters, &it.chars().collect::<Vec<_>>(), most),
+    };
+    names.filter(|it| ***it != *name).filter_map(|it| Some((far(it)?, it))).min_by_key(|it| it.0).map(|it| it.1)
 }
 
 /// Names in modules; `*` stands for any name.
@@ -185,7 +227,7 @@ impl Workspace {
         };
         let leaf = leaves.get(it["place"].as_u64()? as usize)?.clone();
         let span = if located.is_expanded { located.span } else { leaf.span };
-        Some(Import { krate, located, path: leaf.path, binds: leaf.binds, span, reached: 0, last: Value::Null })
+        Some(Import { krate, located, path: leaf.path, binds: leaf.binds, span, reached: Reached::default() })
     }
 
     /// Finds how far the paths of the imports go. Those of a crate are asked once after each time that it was resolved,
@@ -195,21 +237,24 @@ impl Workspace {
         for it in imports {
             of_crates.entry(it.krate).or_default().push(it);
         }
-        let mut due = Vec::new();
+        let (mut due, mut fresh) = (Vec::new(), Vec::new());
         for (krate, imports) in &mut of_crates {
             let times = self.times_resolved(*krate);
             let known = self.reached.get(krate).filter(|it| it.0 == times && it.1.len() == imports.len());
             if let Some((_, known)) = known {
-                for (import, (reached, last)) in imports.iter_mut().zip(known) {
-                    (import.reached, import.last) = (*reached, last.clone());
+                for (import, reached) in imports.iter_mut().zip(known) {
+                    import.reached = reached.clone();
                 }
                 continue;
             }
+            fresh.push(*krate);
             let is_old = self.crates.all[*krate as usize].edition == "2015";
             due.extend(imports.iter_mut().map(|it| (prefixes(&it.path, is_old), &mut **it)));
         }
         for count in 0.. {
-            due.retain(|(prefixes, it)| it.reached == count && prefixes.len() > count && !self.is_of_stub(&it.last));
+            due.retain(|(prefixes, it)| {
+                it.reached.count == count && prefixes.len() > count && !self.is_of_stub(&it.reached.last)
+            });
             if due.is_empty() {
                 break;
             }
@@ -227,13 +272,58 @@ impl Workspace {
             for ((_, import), at) in due.iter_mut().zip(whose) {
                 let found = &replies[at]["ok"]["types"]["def"];
                 if !found.is_null() && replies[at]["ok"]["stop"].is_null() {
-                    (import.reached, import.last) = (count + 1, found.clone());
+                    (import.reached.count, import.reached.last) = (count + 1, found.clone());
                 }
             }
         }
+        let due = of_crates.iter_mut().filter(|it| fresh.contains(it.0)).flat_map(|it| it.1.iter_mut());
+        self.find_hidden(due.map(|it| &mut **it).collect())?;
         for (krate, imports) in of_crates {
-            let reached = imports.into_iter().map(|it| (it.reached, it.last.clone())).collect();
+            let reached = imports.into_iter().map(|it| it.reached.clone()).collect();
             self.reached.insert(krate, (self.times_resolved(krate), reached));
+        }
+        Ok(())
+    }
+
+    /// Finds the names that aren't reached since they aren't visible to the imports. Each is asked in the module of which
+    /// it is one.
+    fn find_hidden(&mut self, imports: Vec<&mut Import>) -> Result<()> {
+        let mut asks = Vec::new();
+        let mut due = Vec::new();
+        for it in imports {
+            let names = names_of(&it.path);
+            let Some(name) = names.get(it.reached.count).filter(|it| *it != "*") else {
+                continue;
+            };
+            let known = it.reached.count > 0 && !self.is_of_stub(&it.reached.last);
+            if let Some((krate, module)) = self.module_of_definition(&it.reached.last).filter(|_| known) {
+                asks.push(question(krate, &module, &format!("self::{name}")));
+                due.push((it, (krate, steps_of(&module))));
+            }
+        }
+        let mut lacking = Vec::new();
+        for ((it, place), mut reply) in due.into_iter().zip(self.ask_all(&asks)?) {
+            let is_there = NAMESPACES.iter().any(|of| !reply["ok"][of].is_null());
+            if is_there && reply["ok"]["stop"].is_null() {
+                it.reached.hidden = reply["ok"].take();
+            } else {
+                lacking.push((it, place));
+            }
+        }
+        // Where edits are followed, a name that comes would change what is told.
+        if !self.is_brief() {
+            return Ok(());
+        }
+        let places: Vec<ModulePlace> = lacking.iter().map(|it| it.1.clone()).collect();
+        for ((it, _), scope) in lacking.into_iter().zip(self.scopes(&places)?) {
+            let names = names_of(&it.path);
+            let (at, is_last) = (steps_of(&it.located.module), it.reached.count + 1 == names.len());
+            let is_seen = |bound: &[Option<BoundName>; 3]| {
+                let them = bound.iter().take(if is_last { 3 } else { 1 });
+                them.flatten().any(|bound| bound.seen.at(it.krate, &at))
+            };
+            let seen = scope.names.iter().filter(|it| is_seen(&it.1)).map(|it| &it.0);
+            it.reached.similar = most_similar(&names[it.reached.count], seen).cloned();
         }
         Ok(())
     }
@@ -245,18 +335,18 @@ impl Workspace {
     }
 
     pub(super) fn is_unjudged(&self, it: &Import, bound: &Bound) -> bool {
-        self.is_of_stub(&it.last) || self.follows_from(it, bound)
+        self.is_of_stub(&it.reached.last) || self.follows_from(it, bound)
     }
 
     /// Whether the name that isn't reached is one of these.
     pub(super) fn follows_from(&self, it: &Import, bound: &Bound) -> bool {
         let names = names_of(&it.path);
-        let Some(name) = names.get(it.reached) else {
+        let Some(name) = names.get(it.reached.count) else {
             return false;
         };
-        let (krate, module) = match it.reached {
+        let (krate, module) = match it.reached.count {
             0 => (it.krate, it.located.module.clone()),
-            _ => match self.module_of_definition(&it.last) {
+            _ => match self.module_of_definition(&it.reached.last) {
                 Some(it) => it,
                 None => return false,
             },
@@ -270,26 +360,75 @@ impl Workspace {
 
     pub(super) fn import_diagnostic(&self, it: &Import) -> Diagnostic {
         let names = names_of(&it.path);
-        let missing = names.get(it.reached).cloned().unwrap_or_default();
-        let before = names[..it.reached.min(names.len())].join("::");
-        let label = match (it.reached, &*missing) {
+        let Reached { count, last, hidden, similar } = &it.reached;
+        let missing = names.get(*count).cloned().unwrap_or_default();
+        let before = names[..(*count).min(names.len())].join("::");
+        let label = match (count, &*missing) {
             (0, _) => format!("no crate, module or item `{missing}` is in scope here"),
             (_, "*") => format!("`{before}` is neither a module nor an enum"),
-            _ if it.reached + 1 == names.len() => format!("no `{missing}` in `{before}`"),
+            _ if count + 1 == names.len() => format!("no `{missing}` in `{before}`"),
             _ => format!("could not find `{missing}` in `{before}`"),
         };
-        let (what, path, place) = self.described(&it.last);
-        let related = place.filter(|_| it.reached > 0).map(|it| (format!("{what} `{path}`"), it));
-        let related = related.into_iter().collect();
-        Diagnostic {
+        let mut notes = expanded_note(&it.located);
+        notes.extend(similar.iter().map(|it| format!("a similar name is there: `{it}`")));
+        let may_be_crate = names.len() > 1 && !matches!(&*missing, "crate" | "self" | "super");
+        if *count == 0 && may_be_crate && self.crates.all[it.krate as usize].edition != "2015" {
+            notes.push(format!("if the crate `{missing}` is wanted, add it to the dependencies in Cargo.toml"));
+        }
+        let (what, path, place) = self.described(last);
+        let related = place.filter(|_| *count > 0).map(|it| (format!("{what} `{path}`"), it));
+        let made = Diagnostic {
             place: place_at(&it.located.file, it.span),
             kind: "unresolved import".to_owned(),
             code: Some("E0432"),
             message: format!("unresolved import `{}`", it.path),
             label,
             krate: self.crates.all[it.krate as usize].title.clone(),
-            notes: expanded_note(&it.located),
-            related,
+            notes,
+            related: related.into_iter().collect(),
+        };
+        let hidden = NAMESPACES.into_iter().map(|it| &hidden[it]).find(|it| !it.is_null());
+        let hidden = hidden.map(|it| self.meaning("", it)).filter(|it| it.visibility != "pub");
+        let Some(Meaning { what, place, brought_by, visibility, .. }) = hidden else {
+            return made;
+        };
+        let (what, place) = match brought_by {
+            Some((_, place)) => (format!("{what} import"), Some(place)),
+            None => (what, place),
+        };
+        let message = format!("{what} `{missing}` is private");
+        let note = visibility.starts_with("in ").then(|| format!("it is visible {visibility}"));
+        let notes = made.notes.iter().cloned().chain(note).collect();
+        let related = place.map(|it| (format!("{what} `{missing}`"), it)).into_iter().collect();
+        Diagnostic { code: Some(PRIVATE), label: format!("private {what}"), message, notes, related, ..made }
+    }
+}
+
+#[cfg(test)]
+mod tests {
+    use super::*;
+
+    #[test]
+    fn names_that_are_similar() {
+        let names =
+            ["HashMap", "HashSet", "BTreeMap", "hash_map", "Price", "tax", "a", "b", "Été"].map(Arc::<str>::from);
+        for (name, wanted) in [
+            ("HashMpa", Some("HashMap")),
+            ("HashMa", Some("HashMap")),
+            ("HasMaps", Some("HashMap")),
+            ("HashSett", Some("HashSet")),
+            ("hashset", Some("HashSet")),
+            ("Hash_map", Some("hash_map")),
+            ("Rebate", None),
+            ("Prize", Some("Price")),
+            ("Prizes", Some("Price")),
+            ("tex", Some("tax")),
+            ("tx", Some("tax")),
+            ("xt", None),
+            ("été", Some("Été")),
+            ("HashMap", None),
+        ] {
+            assert_eq!(most_similar(name, names.iter()).map(|it| &**it), wanted, "{name}");
         }
     }
 }

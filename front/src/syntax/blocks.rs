@@ -128,7 +128,7 @@ fn block_at(tokens: &[Token], at: usize, made: &mut Vec<Arc<Block>>) {
 }
 
 /// A keyword before an expression, behind which `!` negates.
-fn is_of_expression(word: &str) -> bool {
+pub(super) fn is_of_expression(word: &str) -> bool {
     matches!(word, "if" | "while" | "match" | "return" | "in" | "else" | "break" | "move" | "yield")
 }
 

@@ -384,8 +384,15 @@ pub(crate) fn expander_of(name: &str) -> &'static str {
         | "contracts_requires"
         | "unsafe_eii"
         | "eii" => "builtin_attr",
+        "compile_error" | "concat" | "concat_bytes" | "concat_idents" | "env" | "include" | "include_bytes"
+        | "include_str" | "option_env" => "builtin_eager",
         _ => "builtin",
     }
+}
+
+/// Whether a builtin macro expands the calls in what it is given before it expands itself.
+pub(crate) fn is_eager(name: &str) -> bool {
+    expander_of(name) == "builtin_eager"
 }
 
 /// The name and the helpers of a macro that the compiler has by itself.

@@ -286,7 +286,7 @@ impl Workspace {
             return Ok(0);
         };
         let folder = Folder::of(&path_of_key(&located.file), true);
-        let expansion = on_a_thread(|| self.expand(krate, call, &target, &folder, &mut NotRun::new()));
+        let expansion = on_a_thread(|| self.expand(krate, call, &target, None, &folder, &mut NotRun::new()));
         let key = self.expansion_key(krate, call, &target);
         self.states[krate as usize].taken.insert(call.identity, key.clone());
         self.set_expansion(krate, key, &expansion, lines);

@@ -7,12 +7,14 @@ use std::sync::Arc;
 use anyhow::{bail, Context, Result};
 use serde_json::{json, Value};
 
+use super::eager::Input;
 use super::expanded::Source;
 use super::files::{bytes_of, key_of, parse_text, Folder};
 use super::{Expansion, How, Key, Located, NotRun, SentExpansion, Target, Workspace};
+use crate::cfg::string_of;
 use crate::macros::Rules;
-use crate::syntax::{statements_of, unit_of, Attribute, Call, Item, Unit};
-use crate::token::{count, on_a_thread, tokens_of, Hash, SyntaxError, Token};
+use crate::syntax::{statements_of, unit_of, Attribute, Call, Item, MacroDefinition, Unit};
+use crate::token::{count, on_a_thread, opened, tokens_of, Hash, Kind, SyntaxError, Token};
 use crate::unit::{
     build_without, is_builtin, numbered, paths_of, place_json, quoted, steps_of, Built, Detail, Given, Without,
 };
@@ -34,11 +36,15 @@ pub(super) fn expand_rules(rules: &Result<Rules, String>, call: &Call, krate: u3
     }
 }
 
-/// What stands in the file that `include!` names by a literal.
-pub(super) fn included(call: &Call, folder: &Path) -> Expansion {
-    let none = Expansion::of(Arc::default(), None, 0);
-    let name = match &call.input[..] {
-        [Token { kind: crate::token::Kind::Literal(it), .. }, ..] => crate::cfg::string_of(it),
+/// What stands in the file that `include!` names.
+pub(super) fn included(call: &Call, input: Option<&Input>, folder: &Path) -> Expansion {
+    let none = Expansion::of(Arc::default(), input.and_then(|it| it.error.clone()), 0);
+    if none.error.is_some() {
+        return none;
+    }
+    let name = match (&opened(&call.input)[..], input) {
+        (_, Some(it)) => it.text.clone(),
+        ([Token { kind: Kind::Literal(it), .. }, ..], None) => string_of(it),
         _ => None,
     };
     let Some(name) = name else {
@@ -87,15 +93,19 @@ impl Workspace {
         lines: &mut Vec<String>,
     ) -> Arc<Built> {
         let left_out = self.states[krate as usize].left_out;
-        let state = (expansion.error.is_some(), expansion.is_endless, left_out);
+        let state = (expansion.error.is_some(), expansion.is_endless, left_out, expansion.inner.clone());
         if let Some(it) = self.expansions.get(&key).filter(|it| it.state == state) {
             return it.built.clone();
         }
         let options = &self.crates.all[krate as usize].options;
         let without = Without { derives: left_out, associated: self.is_brief };
-        let built = Arc::new(build_without(&expansion.unit, options, &|_| None, without));
+        let (built, what) = match expansion.inner.is_empty() {
+            true => (build_without(&expansion.unit, options, &|_| None, without), "unit"),
+            false => (Built::of_paths(&expansion.inner), "inner"),
+        };
+        let built = Arc::new(built);
         let error = expansion.error.as_ref().map_or(String::new(), |it| format!(",\"error\":{}", quoted(it)));
-        let line = format!("{{\"do\":\"set expansion\",\"key\":{key},\"unit\":{}{error}}}", built.json);
+        let line = format!("{{\"do\":\"set expansion\",\"key\":{key},\"{what}\":{}{error}}}", built.json);
         lines.push(line.clone());
         self.type_names.add(&built);
         if let Some(it) = self.expansions.insert(key, SentExpansion { built: built.clone(), line, state }) {
@@ -111,11 +121,17 @@ impl Workspace {
         }
     }
 
+    pub(super) fn rules_of_macro(&mut self, definition: &MacroDefinition) -> Arc<Result<Rules, String>> {
+        self.rules.entry(definition.hash).or_insert_with(|| Arc::new(Rules::read(definition))).clone()
+    }
+
+    #[allow(clippy::too_many_arguments)]
     pub(super) fn expand(
         &mut self,
         krate: u32,
         call: &Call,
         target: &Target,
+        input: Option<&Input>,
         folder: &Folder,
         not_run: &mut NotRun,
     ) -> Arc<Expansion> {
@@ -123,7 +139,7 @@ impl Workspace {
             *not_run.entry(("macro", target.name.clone())).or_default() += 1;
         }
         let cached = (krate, call.identity);
-        let text = format!("{} {}", target.krate, target.text);
+        let text = format!("{} {}{}", target.krate, target.text, input.map_or(String::new(), Input::words));
         if let Some((before, it)) = self.cache.get(&cached) {
             if *before == text {
                 return it.clone();
@@ -133,12 +149,12 @@ impl Workspace {
         let made = match (&target.how, self.elsewhere.get(&elsewhere)) {
             (_, Some(unit)) => Expansion::of(unit.clone(), None, 0),
             (How::Rules(definition), None) => {
-                let rules = self.rules.entry(definition.hash).or_insert_with(|| Arc::new(Rules::read(definition)));
+                let rules = self.rules_of_macro(definition);
                 let source = Source { rules: rules.clone(), input: call.input.clone(), krate: target.krate };
-                let made = expand_rules(rules, call, target.krate);
+                let made = expand_rules(&rules, call, target.krate);
                 Expansion { source: made.error.is_none().then_some(source), ..made }
             }
-            (How::Builtin, None) if target.name == "include" => included(call, &folder.of_file),
+            (How::Builtin, None) if target.name == "include" => included(call, input, &folder.of_file),
             _ => Expansion::of(Arc::default(), None, 0),
         };
         let made = Arc::new(made);

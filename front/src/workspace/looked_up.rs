@@ -150,7 +150,10 @@ fn looked_up(commands: &[Command], values: &[Option<Value>], asked: &[&str]) -> 
     ALWAYS.iter().chain(asked).for_each(|it| words.add_text(it));
     for ((line, is_told), value) in commands.iter().zip(values) {
         match value {
-            Some(it) => words.add_unit(&it["unit"], *is_told),
+            Some(it) => {
+                words.add_unit(&it["unit"], *is_told);
+                words.add_value(&it["inner"]);
+            }
             None => words.add_text(line),
         }
     }
@@ -237,6 +240,15 @@ mod tests {
         ] {
             assert_eq!(left_out(below, told), wanted, "{below} | {told}");
         }
+    }
+
+    #[test]
+    fn paths_in_place_of_items() {
+        let asking = "{\"do\":\"set expansion\",\"key\":{},\"inner\":[\"core::concat\",\"m::name\"]}".to_owned();
+        let below = command("pub use x::name; pub use y::other; fn concat() {} fn key() {}");
+        let (lines, names) = without_others(&[(below, false), (asking.clone(), true)], &[]);
+        assert_eq!(names.into_iter().collect::<Vec<_>>(), ["key", "other"]);
+        assert_eq!(lines[1], asking);
     }
 
     #[test]

@@ -304,7 +304,7 @@ impl Workspace {
             if !has_name(built) {
                 continue;
             }
-            if has_visibility_in(built, &names) {
+            if built.is_of_paths() || has_visibility_in(built, &names) {
                 return None;
             }
             let (of_crate, left_out) =

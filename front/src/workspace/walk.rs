@@ -6,6 +6,7 @@ use std::sync::Arc;
 
 use anyhow::Result;
 
+use super::eager::{gives_calls, Input};
 use super::expansions::macro_question;
 use super::files::{broken, key_of, parse, path_of_key, Folder};
 use super::{Endless, Expansion, How, Key, NotRun, Target, Workspace};
@@ -37,6 +38,8 @@ pub(super) struct Walk<'a> {
     chain: Vec<Hash>,
     /// How many calls there are around in all.
     depth: usize,
+    /// Where the path of the outermost of these stands.
+    outermost: Span,
     /// Whether it is in what a call brings that no rules expand, so that positions are those of another text.
     is_elsewhere: bool,
     files: Vec<(Key, Vec<String>)>,
@@ -51,6 +54,10 @@ pub(super) struct Walk<'a> {
     replaced: HashMap<Hash, Arc<Unit>>,
     units: HashMap<Hash, Arc<Unit>>,
     taken: HashMap<Hash, String>,
+    /// What the calls are given that share an expansion.
+    shared: HashMap<String, String>,
+    /// The keys under which paths are handed in, in place of items.
+    asking: HashSet<String>,
     tokens: usize,
     is_too_deep: bool,
     endless: Vec<Endless>,
@@ -79,6 +86,7 @@ impl Walk<'_> {
             calls: Vec::new(),
             chain: Vec::new(),
             depth: 0,
+            outermost: Span::default(),
             is_elsewhere: false,
             files: Vec::new(),
             modules: HashMap::new(),
@@ -89,6 +97,8 @@ impl Walk<'_> {
             replaced: HashMap::new(),
             units: HashMap::new(),
             taken: HashMap::new(),
+            shared: HashMap::new(),
+            asking: HashSet::new(),
             tokens: 0,
             is_too_deep: false,
             endless: Vec::new(),
@@ -320,13 +330,16 @@ impl Walk<'_> {
         let is_outermost = self.depth == 0;
         if is_outermost {
             (self.tokens, self.is_too_deep) = (0, false);
+            self.outermost = call.path.span;
         }
+        let input = gives_calls(call, &target).then(|| self.eager_input(call, place));
         let mut in_body = NotRun::new();
         let not_run = if self.in_block { &mut in_body } else { &mut self.not_run };
-        let expansion = self.space.expand(self.krate, call, &target, folder, not_run);
+        let expansion = self.space.expand(self.krate, call, &target, input.as_ref(), folder, not_run);
+        let is_reached = input.as_ref().map_or(true, Input::is_reached);
         let is_unknown = match target.how {
             How::Procedural => expansion.unit.items.is_empty(),
-            How::Builtin => target.name == "include" && expansion.is_unknown,
+            How::Builtin => target.name == "include" && expansion.is_unknown && is_reached,
             How::Rules(_) => false,
         };
         if is_unknown && !self.in_block {
@@ -334,9 +347,22 @@ impl Walk<'_> {
         }
         self.included.extend(expansion.file.clone());
         self.tokens += expansion.tokens + 1;
-        let expansion_key = self.space.expansion_key(self.krate, call, &target);
+        let mut is_shared = true;
+        let mut expansion_key = self.space.expansion_key(self.krate, call, &target);
+        if let Some(it) = input.as_ref().filter(|it| !it.paths().is_empty()) {
+            is_shared &= self.is_shared(&expansion_key, it.words());
+            let inner = Expansion { inner: it.paths(), ..Expansion::of(Arc::default(), None, 0) };
+            self.asking.insert(expansion_key.clone());
+            self.pending.push((call.identity, expansion_key, Arc::new(inner)));
+            expansion_key = it.key(self.krate, call, &target);
+        }
+        if is_reached && matches!(target.how, How::Builtin) {
+            is_shared &= self.is_shared(&expansion_key, format!("{:?} {:?}", expansion.file, expansion.error));
+        }
         self.taken.insert(call.identity, expansion_key.clone());
-        self.pending.push((call.identity, expansion_key, expansion.clone()));
+        if is_reached {
+            self.pending.push((call.identity, expansion_key, expansion.clone()));
+        }
         self.units.insert(call.identity, expansion.unit.clone());
         let (defined, is_elsewhere) = (self.defined, self.is_elsewhere);
         self.is_elsewhere |= expansion.source.is_none();
@@ -349,7 +375,11 @@ impl Walk<'_> {
             self.calls.push((call.path.text.as_str().into(), target.text.clone(), self.chain.clone()));
         }
         self.statements(&expansion.unit.items, &expansion.unit.blocks, folder, place, key);
-        if self.defined > defined {
+        if let (Some(message), false) = (expansion.error.clone(), is_shared) {
+            let (file, span) = (key.clone(), self.outermost);
+            self.endless.push(Endless { kind: "macro error", file, span, message });
+        }
+        if self.defined > defined || !is_shared {
             for it in &self.chain {
                 self.replaced.insert(*it, self.units[it].clone());
             }
@@ -371,13 +401,33 @@ impl Walk<'_> {
     fn target_of_path(&mut self, path: &str, place: &[String]) -> Option<Target> {
         let question = (place.to_vec(), path.to_owned());
         self.looked_up.insert(question.clone());
-        let known = self.space.states[self.krate as usize].reached.get(&question).cloned();
-        match known {
-            Some(it) => it,
-            // The program doesn't tell that a call of a block is absent.
-            None if self.in_block => self.space.likely_or_asked(self.krate, question),
-            None => self.space.likely(self.krate, question),
-        }
+        self.space.reached(self.krate, question, self.in_block)
+    }
+
+    /// What a call gives to a macro that expands the calls in it first.
+    fn eager_input(&mut self, call: &Call, place: &[String]) -> Input {
+        let chain = [&self.chain[..], &[call.identity]].concat();
+        let Walk { space, scope, looked_up, calls, krate, limit, depth, in_block, .. } = self;
+        let mut reach = |space: &mut Workspace, path: &str| {
+            if let Some((name, it)) = scope.get_key_value(path) {
+                if !*in_block {
+                    calls.push((name.clone(), it.text.clone(), chain.clone()));
+                }
+                return Some(it.clone());
+            }
+            let question = (place.to_vec(), path.to_owned());
+            looked_up.insert(question.clone());
+            let found = space.reached(*krate, question.clone(), *in_block);
+            // What isn't known is asked.
+            space.states[*krate as usize].reached.entry(question).or_insert_with(|| found.clone());
+            found
+        };
+        space.eager_input(*krate, call, (*depth, *limit), &mut reach)
+    }
+
+    /// Whether calls that have the key of an expansion are given the same.
+    fn is_shared(&mut self, key: &str, given: String) -> bool {
+        *self.shared.entry(key.to_owned()).or_insert_with(|| given.clone()) == given
     }
 
     /// Notes that a call ends nowhere. It and the calls in its expansion, which are pending from `first` on, count as ones
@@ -391,7 +441,7 @@ impl Walk<'_> {
                 self.limit
             ),
         };
-        self.endless.push(Endless { file: key.clone(), span: call.path.span, message });
+        self.endless.push(Endless { kind: "endless macro", file: key.clone(), span: call.path.span, message });
         let none = Arc::new(Expansion { is_endless: true, ..Expansion::of(Arc::default(), None, 0) });
         for it in &mut self.pending[first..] {
             it.2 = none.clone();
@@ -438,7 +488,7 @@ impl Workspace {
             return self.walk(krate, lines, expansions);
         }
         let Walk { files, missing, pending, replaced, units, taken, looked_up, not_run, .. } = walk;
-        let Walk { endless, without_end, with_blocks, expansions_with_blocks, open, included, .. } = walk;
+        let Walk { endless, without_end, with_blocks, expansions_with_blocks, open, included, asking, .. } = walk;
         let mut given = Given::default();
         for (identity, key, expansion) in pending {
             given = given.and(expansion.given);
@@ -454,7 +504,7 @@ impl Workspace {
         }
         self.replaced.extend(replaced);
         self.cache.retain(|it, _| it.0 != krate || units.contains_key(&it.1));
-        self.remove_untaken(krate, &taken, lines);
+        self.remove_untaken(krate, &taken, &asking, lines);
         for it in files.iter().filter_map(|it| self.parsed.get(&it.0)) {
             given = given.and(it.given);
         }
@@ -484,8 +534,14 @@ impl Workspace {
     }
 
     /// Removes the expansions that no call of a crate takes any more.
-    fn remove_untaken(&mut self, krate: u32, taken: &HashMap<Hash, String>, lines: &mut Vec<String>) {
-        let used: HashSet<&String> = taken.values().collect();
+    fn remove_untaken(
+        &mut self,
+        krate: u32,
+        taken: &HashMap<Hash, String>,
+        asking: &HashSet<String>,
+        lines: &mut Vec<String>,
+    ) {
+        let used: HashSet<&String> = taken.values().chain(asking).collect();
         let front = format!("{{\"caller\":{krate},");
         let is_left =
             |key: &&String| key.starts_with(&front) && key.contains(",\"call\":\"bang\",") && !used.contains(key);
@@ -504,6 +560,16 @@ impl Workspace {
         let counted = broken(&parsed.path, error, parsed.text);
         self.circular.insert(key.clone(), parsed);
         self.parsed.insert(key, Arc::new(counted));
+    }
+
+    /// The macro that a path reaches, as far as that is known.
+    fn reached(&mut self, krate: u32, question: (Vec<String>, String), in_block: bool) -> Option<Target> {
+        match self.states[krate as usize].reached.get(&question).cloned() {
+            Some(it) => it,
+            // The program doesn't tell that a call of a block is absent.
+            None if in_block => self.likely_or_asked(krate, question),
+            None => self.likely(krate, question),
+        }
     }
 
     /// The exported macro that a path most likely reaches, which is asked later on: an expansion that is there at once
