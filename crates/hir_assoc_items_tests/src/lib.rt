@@ -4,4 +4,8 @@
 #[cfg(test)]
 mod diagnostics;
 #[cfg(test)]
+mod lists;
+#[cfg(test)]
+mod queries;
+#[cfg(test)]
 mod readers;

@@ -13,7 +13,8 @@ use std::alloc::Global;
 use std::process::Abort;
 use std::test::Fail;
 
-const FILE: HirFileId = HirFileId::File(EditionedFileId {
+/// The file of all nodes.
+pub const FILE: HirFileId = HirFileId::File(EditionedFileId {
     file_id: FileId(0),
     edition: Edition::Edition2021,
 });

@@ -6,9 +6,11 @@ use crate::stage::{Draft, Stage};
 use crate::words;
 use crate::words::Fault;
 use hir_base::ast_id::HirFileId;
-use hir_base::ids::MapId;
+use hir_base::ids::{MapId, ModuleId};
 use hir_def_map::world::look_up::{block_def_map, crate_def_map};
-use hir_def_map::{DefMap, DefMapCrateData, DefMaps, ModuleData, ModuleOrigin, WorldPart};
+use hir_def_map::{
+    DefMap, DefMapCrateData, DefMaps, ModuleData, ModuleOrigin, ModuleSource, ModulesMap, WorldPart,
+};
 use hir_item_tree::raw_visibility::{RawVisibility, VisibilityExplicitness};
 use hir_item_tree::shape::FieldsShape;
 use std::alloc::Global;
@@ -122,17 +124,40 @@ fn write_origin(origin: ModuleOrigin, out: &mut String) -> Result<(), Fault> {
     Ok(())
 }
 
-/// What a module's contents are written in, and the node of that where it is no whole file.
-fn write_source(module: &ModuleData, out: &mut String) -> Result<(), Fault> {
+/// What contents are written in, by its kind and, where it is no whole file, its node.
+fn write_source(source: ModuleSource, out: &mut String) -> Result<(), Fault> {
+    match (source, source.node()) {
+        (ModuleSource::SourceFile(_), None) => out.push_str(" as a whole")?,
+        (ModuleSource::Module(_), Some(node)) => write!(out, " in module {}", node.hash)?,
+        (ModuleSource::BlockExpr(_), Some(node)) => write!(out, " in block {}", node.hash)?,
+        _ => return Err(Fault::Bad),
+    }
+    Ok(())
+}
+
+/// What a module's contents are written in, and where that is.
+fn write_contents(module: &ModuleData, out: &mut String) -> Result<(), Fault> {
     out.push_str(", contents in")?;
     write_file(module.definition_source_file_id(), out)?;
     let source = module.definition_source();
     if source.file_id != module.definition_source_file_id() {
         return Err(Fault::Bad);
     }
-    if let Some(node) = source.value.node() {
-        write!(out, " node {}", node.hash)?;
+    write_source(source.value, out)
+}
+
+/// Where one of the modules of a map is written, and how many there are.
+fn write_written(modules: &ModulesMap, at: ModuleId, out: &mut String) -> Result<(), Fault> {
+    if !modules.contains(at) {
+        return Err(Fault::Bad);
     }
+    let module = &modules[at];
+    write_origin(module.origin(), out)?;
+    write_contents(module, out)?;
+    if module.declaration_source() != module.origin().declaration() {
+        return Err(Fault::Bad);
+    }
+    write!(out, "; of {} modules", modules.len())?;
     Ok(())
 }
 
@@ -142,16 +167,7 @@ pub fn written(stage: &Stage, words: &[&str], out: &mut String) -> Result<(), Fa
         return Err(Fault::Bad);
     };
     let asker = asker_at(stage, at)?;
-    if !asker.map.contains(asker.at) {
-        return Err(Fault::Bad);
-    }
-    let module = &asker.map[asker.at];
-    write_origin(module.origin(), out)?;
-    write_source(module, out)?;
-    if module.declaration_source() != module.origin().declaration() {
-        return Err(Fault::Bad);
-    }
-    Ok(())
+    write_written(asker.map.modules(), asker.at, out)
 }
 
 /// Gives a module of the open map a child by a further name.

@@ -39,7 +39,7 @@
 //!   item means there and in an impl, and `in_trait 1:2 pub pub(self)` who may see an item with the second in a trait with the first.
 //! - `say no_std` has the top of the open map's crate say that, `no_core`, `coherence`, `limit=4`, `feature=x` or `tool=x`, and
 //!   `top 1:0` lists what it says; `roots 1.7:0` are the roots of the crate and of the map.
-//! - `child 1:2 n 1:3` gives a module a child by a further name, and `children 1:2` lists them. `written 1:2` is where a module is written, `preludes 1:0` what paths may begin with, and `variants_of 1:2 5` the variants of an enum.
+//! - `child 1:2 n 1:3` gives a module a child by a further name, and `children 1:2` lists them. `written 1:2` is where a module is written, and how many its map has, `preludes 1:0` what paths may begin with, and `variants_of 1:2 5` the variants of an enum.
 //! - `aside` puts the world aside, and `agrees 0 1.7` says which maps are found, and whether the world that was put aside has the same.
 //! - `report 1:2 import 5` gives the open map a diagnostic of node 5, by its kind, and `reports 1:0` lists those of a map.
 //!
