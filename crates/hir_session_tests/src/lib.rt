@@ -8,6 +8,8 @@ mod attributes;
 #[cfg(test)]
 mod calls;
 #[cfg(test)]
+mod crate_data;
+#[cfg(test)]
 mod eager;
 #[cfg(test)]
 mod library;
