@@ -11,7 +11,7 @@ def mine():
         if not d.isdigit(): continue
         try:
             c = open(f"/proc/{d}/cmdline").read().split("\0")
-            if "rattle" in c[0] and os.getpriority(os.PRIO_PROCESS, int(d)) > 0 or ("clang" in c[0] and os.getpriority(os.PRIO_PROCESS, int(d)) > 0):
+            if "rattle" in c[0] and os.getpriority(os.PRIO_PROCESS, int(d)) > 0 and "rattle-try" not in c[0]:
                 st = open(f"/proc/{d}/stat").read().rsplit(")", 1)[1].split()
                 out.append((int(st[19]), int(d), int(open(f"/proc/{d}/statm").read().split()[1]) * 4096 / 1e9))
         except OSError: pass

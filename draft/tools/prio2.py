@@ -29,7 +29,7 @@ while True:
             if "rattle" in c[0] and "--crate-name" in c:
                 name = c[c.index("--crate-name")+1]
                 if "rt-edit" in cwd: v = 8
-                elif name.endswith(("_tests","_rows")) or "--test" in c: v = 12
+                elif (name.endswith(("_tests","_rows")) or "--test" in c) and name not in crit: v = -6
                 else: v = -15 if name in crit else other
             else: v = -12
             try:
