@@ -1,24 +1,27 @@
 -- What is lowered anew of sources under a crate, and what is put in place of what is kept.
 use Rattle.std.proofs.Common.{◌≡◌, ◌∙◌, ◌⊎◌, inl, inr, ℕ, suc, ◌+◌, ◌<◌, nat_eq, Bool, true, false, ◌&&◌, if◌then◌else◌, List, [], ◌∷◌, ◌++◌, length, map, drop}
-use Rattle.std.proofs.Common.{get_or, drop-cons, add-one, arith, Option, Some, None, option_map, refl, sym, ap, subst, Contains, is_some}
+use Rattle.std.proofs.Common.{get_or, drop-cons, add-one, arith, cond, Option, Some, None, option_map, refl, sym, ap, ap₂, subst, Contains, is_some}
 use Rattle.std.specs.BTreeMap.{is_at}
 use Rattle.std.specs.Cmp.{unsigned_Decides}
-use Rattle.std.specs.Cmp.Lexicographic.{slice_cmp}
+use Rattle.std.specs.Cmp.Lexicographic.{pointwise, slice_cmp}
 use Rattle.std.specs.Map.{keys_of, lookup}
 use Rattle.std.specs.Ordering.{nat_cmp}
 use Rattle.std.specs.declared.alloc.Global.{Global}
 use Rattle.std.specs.declared.rc.Rc.{Rc}
 use Rattle.std.proofs.lemmas.List.Elements.{Contains-append_left, Contains-append_right, Contains-push, Contains-push_cases}
+use Rattle.hir_session_state.specs.HirBase.CfgOptions.{is_set}
 use Rattle.hir_session_state.specs.HirBase.contracts.place.BlockPlaceOrd.TheImpl as block_order
+use Rattle.hir_session_state.specs.HirBase.declared.cfg.CfgAtom.{CfgAtom}
 use Rattle.hir_session_state.specs.HirBase.declared.macro_kind.ExpansionKey.{ExpansionKey}
 use Rattle.hir_session_state.specs.HirIds.declared.ids.Crate.{Crate}
-use Rattle.hir_session_state.specs.HirItemTree.SourceTree.{SourceTreeValue}
+use Rattle.hir_session_state.specs.HirItemTree.Attributes.{Attributes, no_attributes}
+use Rattle.hir_session_state.specs.HirItemTree.SourceTree.{SourceTreeValue, source_tree_of}
 use Rattle.hir_session_state.specs.HirTables.SourcePlaces.{SourcePlaceValue, expansion_value, block, expansion, file}
 use Rattle.hir_session_state.specs.Crates.{CrateValue}
 use Rattle.hir_session_state.specs.Entries.{by_value, expansion_cmp}
-use Rattle.hir_session_state.specs.SourceTable.{SourceTable}
+use Rattle.hir_session_state.specs.SourceTable.{SourceTable, front_in, source_at}
 use Rattle.hir_session_sources.specs.ByCrate.{entries_under, keys_under}
-use Rattle.hir_session_sources.specs.LoweredTrees.{kept_place, tree_for, AreLowered, AreLoweredAnew, HasLowered, IsTreeFor, MayLower, lowers, leaves}
+use Rattle.hir_session_sources.specs.LoweredTrees.{kept_place, tree_for, AreLowered, AreLoweredAnew, HasLowered, IsTreeFor, LowerAlike, MayLower, lowers, leaves}
 use Rattle.hir_session_sources.specs.SourceTrees.{file_tree, is_place, tree_in}
 use Rattle.hir_session_sources.specs.declared.source_trees.SourceTrees.{SourceTrees}
 use Rattle.hir_session_sources.specs.declared.source_trees.lowering.LoweredTree.{LoweredTree}
@@ -32,6 +35,10 @@ use Rattle.hir_session_state.proofs.Truth.{clash, no_value, on_bool}
 
 nowhere : {A B : Type 0} {x : A} → Contains [] x → B
 nowhere among = let below = among.1 in absurd (omega (arith, below))
+
+-- the next element and those behind it are left
+pub drop_next : {A : Type 0} (k : ℕ) (xs : List A) (x other : A) → k < length xs → x ≡ get_or xs k other → drop k xs ≡ x ∷ drop (k + 1) xs
+drop_next k xs x other within is = rw (add-one, drop-cons xs k other, is) refl
 
 -- ---- of which sources something may be kept
 
@@ -217,3 +224,25 @@ module _ (c : CrateValue) (t : SourceTable) (krate : Crate) (old : SourceTrees) 
     ];
     others = are.others;
   }
+
+-- ---- crates under which sources have the same
+
+front_alike : (one other : CrateValue) (p : SourcePlaceValue) → other.own ≡ one.own → one.config.attributes ≡ other.config.attributes
+    → front_in one p ≡ front_in other p
+front_alike one other (file path) own attributes = λ i. cond (pointwise nat_eq (sym own i).root path) (attributes i) no_attributes
+front_alike one other (block place) own attributes = refl
+front_alike one other (expansion key) own attributes = refl
+
+pub trees_alike : (one other : CrateValue) (t : SourceTable) (p : SourcePlaceValue) → other.own ≡ one.own → LowerAlike one.config other.config
+    → tree_for one t p ≡ tree_for other t p
+trees_alike one other t p own alike =
+    let set : is_set one.config.options ≡ is_set other.config.options = λ i a. alike.options a i in
+    ap₂ (λ (options : CfgAtom → Bool) (front : Attributes). source_tree_of options front (source_at t p)) set (front_alike one other p own alike.attributes)
+
+-- where all that is kept is right, nothing is lowered
+pub none_lowered : (c : CrateValue) (t : SourceTable) (krate : Crate) (trees : SourceTrees) (lowered : List LoweredTree) → lowered ≡ []
+    → ((p : SourcePlaceValue) (tree : SourceTreeValue) → tree_in trees p krate ≡ Some tree → tree ≡ tree_for c t p) → AreLowered c t krate trees lowered
+none_lowered c t krate trees lowered none right = subst (λ (ls : List LoweredTree). AreLowered c t krate trees ls) (sym none) record {
+  each = λ l among. nowhere among;
+  all = λ p tree is. inl (right p tree is);
+}

@@ -5,4 +5,4 @@ use Rattle.hir_session_sources.proofs.source_trees.SourceTrees.lowered.Given as 
 
 -- of the places so far all that is kept is lowered
 abbrev pub invariant-loop-place : goal.invariant-loop-place
-invariant-loop-place l = IsLowering l.info.now l.table.now l.krate l.self (drop l.place-index (map source_value l.places.items)) l.lowered.items
+invariant-loop-place l = IsLowering l.info l.table l.krate l.self (map source_value (drop l.place-index l.place-items)) l.lowered.items
