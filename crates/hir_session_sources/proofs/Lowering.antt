@@ -1,5 +1,5 @@
 -- What is lowered anew of sources under a crate, and what is put in place of what is kept.
-use Rattle.std.proofs.Common.{◌≡◌, ◌∙◌, ◌⊎◌, inl, inr, ℕ, suc, ◌+◌, ◌<◌, nat_eq, Bool, true, false, ◌&&◌, if◌then◌else◌, List, [], ◌∷◌, ◌++◌, length, map, drop}
+use Rattle.std.proofs.Common.{◌≡◌, ◌∙◌, ◌⊎◌, inl, inr, ℕ, ◌+◌, ◌<◌, nat_eq, Bool, true, false, ◌&&◌, if◌then◌else◌, List, [], ◌∷◌, ◌++◌, length, map, drop}
 use Rattle.std.proofs.Common.{get_or, drop-cons, add-one, arith, cond, Option, Some, None, option_map, refl, sym, ap, ap₂, subst, Contains, is_some}
 use Rattle.std.specs.BTreeMap.{is_at}
 use Rattle.std.specs.Cmp.{unsigned_Decides}
@@ -18,7 +18,7 @@ use Rattle.hir_session_state.specs.HirItemTree.Attributes.{Attributes, no_attrib
 use Rattle.hir_session_state.specs.HirItemTree.SourceTree.{SourceTreeValue, source_tree_of}
 use Rattle.hir_session_state.specs.HirTables.SourcePlaces.{SourcePlaceValue, expansion_value, block, expansion, file}
 use Rattle.hir_session_state.specs.Crates.{CrateValue}
-use Rattle.hir_session_state.specs.Entries.{by_value, expansion_cmp}
+use Rattle.hir_session_state.specs.Entries.{expansion_cmp}
 use Rattle.hir_session_state.specs.SourceTable.{SourceTable, front_in, source_at}
 use Rattle.hir_session_sources.specs.ByCrate.{entries_under, keys_under}
 use Rattle.hir_session_sources.specs.LoweredTrees.{kept_place, tree_for, AreLowered, AreLoweredAnew, HasLowered, IsTreeFor, LowerAlike, MayLower, lowers, leaves}
@@ -28,7 +28,7 @@ use Rattle.hir_session_sources.specs.declared.source_trees.lowering.LoweredTree.
 use Rattle.hir_session_sources.proofs.BlockLemmas.{exact_blocks}
 use Rattle.hir_session_sources.proofs.Expansions.{exact_expansions}
 use Rattle.hir_session_sources.proofs.Lookups.{lookup-keyed}
-use Rattle.hir_session_sources.proofs.Replaced.{IsPut}
+use Rattle.hir_session_sources.proofs.Replaced.{IsPut, in_place}
 use Rattle.hir_session_sources.proofs.SourceLemmas.{exact_paths, place_same}
 use Rattle.hir_session_state.proofs.HirCollectorRules.Asked.{head_or_later}
 use Rattle.hir_session_state.proofs.Truth.{clash, no_value, on_bool}
@@ -141,9 +141,6 @@ own_place : (p : SourcePlaceValue) → is_place p p ≡ true
 own_place (file path) = exact_paths.own path
 own_place (block place) = exact_blocks.own place
 own_place (expansion key) = exact_expansions.own key
-
-abbrev in_place : {A B : Type 0} → A → Option B → Option A
-in_place x o = option_map (λ _. x) o
 
 put_twice : {A B : Type 0} (x : A) (o : Option B) → in_place x (in_place x o) ≡ in_place x o
 put_twice x None = refl

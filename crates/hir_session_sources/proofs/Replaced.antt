@@ -14,7 +14,7 @@ use Rattle.hir_session_state.specs.HirBase.declared.place.BlockPlace.{BlockPlace
 use Rattle.hir_session_state.specs.HirBase.declared.macro_kind.ExpansionKey.{ExpansionKey}
 use Rattle.hir_session_state.specs.HirIds.declared.ids.Crate.{Crate}
 use Rattle.hir_session_state.specs.HirItemTree.SourceTree.{SourceTreeValue}
-use Rattle.hir_session_state.specs.HirTables.SourcePlaces.{ExpansionValue, SourcePlaceValue, expansion_value, block, expansion, file}
+use Rattle.hir_session_state.specs.HirTables.SourcePlaces.{SourcePlaceValue, expansion_value, block, expansion, file}
 use Rattle.hir_session_state.specs.Entries.{by_value, expansion_cmp}
 use Rattle.hir_session_sources.specs.ByCrate.{entries_under}
 use Rattle.hir_session_sources.specs.SourceTrees.{CrateTrees, file_tree, is_kept_at, is_listed, is_place, tree_by, tree_in}
@@ -24,7 +24,7 @@ use Rattle.hir_session_sources.proofs.CrateEntries.{crate_test, else_of, then_of
 use Rattle.hir_session_sources.proofs.Expansions.{compared_alike, exact_expansions}
 use Rattle.hir_session_sources.proofs.Lookups.{lookup-put, renamed-put}
 use Rattle.hir_session_sources.proofs.SourceLemmas.{exact_paths}
-use Rattle.hir_session_sources.proofs.TreeLemmas.{BlocksStay, BlockTrees, ExpansionsStay, FilesStay, Trees, block_tree, expansion_tree, listed_tree, of_blocks, of_expansions}
+use Rattle.hir_session_sources.proofs.TreeLemmas.{BlocksStay, BlockTrees, ExpansionsStay, FilesStay, Trees, listed_tree, of_blocks, of_expansions}
 use Rattle.hir_session_state.proofs.Truth.{on_bool}
 
 abbrev Kept : Type 0
@@ -35,7 +35,7 @@ abbrev value_of : Option Kept → Option SourceTreeValue
 value_of o = option_map (λ (t : Kept). t.value) o
 
 -- this in place of what is there, where something is
-abbrev in_place : {A B : Type 0} → A → Option B → Option A
+abbrev pub in_place : {A B : Type 0} → A → Option B → Option A
 in_place x o = option_map (λ _. x) o
 
 module _ (tree : Kept) where

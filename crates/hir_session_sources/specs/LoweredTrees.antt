@@ -1,8 +1,7 @@
 -- What is lowered anew of sources where a crate is handed in with other data? No public clause speaks of this.
-use Rattle.std.specs.Prelude.{◌≡◌, ◌⊎◌, false, nat_eq, List, [], ◌∷◌, ◌++◌, Option, Some, None, option_map, Contains}
+use Rattle.std.specs.Prelude.{◌≡◌, ◌⊎◌, false, nat_eq, List, [], ◌∷◌, ◌++◌, Some, None, option_map, Contains}
 use Rattle.hir_session_state.specs.HirBase.CfgOptions.{SetAlike, is_set}
 use Rattle.hir_session_state.specs.HirIds.declared.ids.Crate.{Crate}
-use Rattle.hir_session_state.specs.HirItemTree.Source.{SourceValue}
 use Rattle.hir_session_state.specs.HirItemTree.SourceTree.{SourceTreeValue, source_tree_of}
 use Rattle.hir_session_state.specs.HirTables.SourcePlaces.{SourcePlaceValue, block, expansion, expansion_value, file}
 use Rattle.hir_session_state.specs.HirCollectorRules.Workspace.{ConfigValue}

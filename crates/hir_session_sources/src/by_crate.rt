@@ -4,7 +4,7 @@ ghost use Rattle.std.specs.BTreeMap.{insert_entry, is_at};
 ghost use Rattle.std.specs.Map.{lookup, set_value};
 ghost use Rattle.hir_session_state.specs.HirIds.declared.ids.Crate.{Crate};
 ghost use Rattle.hir_session_state.specs.HirIds.contracts.ids.CrateOrd.TheImpl as crate_order;
-ghost use Rattle.hir_session_sources.specs.ByCrate.{entries_of, entries_under};
+ghost use Rattle.hir_session_sources.specs.ByCrate.{entries_under};
 
 use hir_base::ids::Crate;
 use std::alloc::{AllocError, Global};

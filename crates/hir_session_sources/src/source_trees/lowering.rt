@@ -10,7 +10,7 @@ ghost use Rattle.hir_session_sources.specs.ByCrate.{keys_under};
 ghost use Rattle.hir_session_sources.specs.LoweredTrees.{kept_place, AreLowered, AreLoweredAnew, MayLower};
 ghost use Rattle.hir_session_sources.specs.SourceTrees.{is_place, tree_in};
 
-use super::{FileTrees, SourceTrees, copied_place, put_tree, tree_behind};
+use super::{SourceTrees, copied_place, put_tree, tree_behind};
 use crate::by_crate::{ByCrate, put_under};
 use crate::copied_key::copied_key;
 use crate::crate_info::CrateInfo;

@@ -1,5 +1,5 @@
 -- What is lowered is what the source has under the crate that is handed in so.
-use Rattle.std.proofs.Common.{◌≡◌, ◌∙◌, ap, sym, Option}
+use Rattle.std.proofs.Common.{◌∙◌, ap, sym, Option}
 use Rattle.hir_session_state.specs.HirBase.CfgOptions.{is_set}
 use Rattle.hir_session_state.specs.HirItemTree.Source.{SourceValue}
 use Rattle.hir_session_state.specs.HirItemTree.SourceTree.{source_tree_of}
