@@ -1,5 +1,5 @@
 -- What is kept of sources stays what they have.
-use Rattle.std.proofs.Common.{◌≡◌, ◌∙◌, ℕ, ap, sym, subst, refl, nat_eq, Bool, true, false, ◌&&◌, if◌then◌else◌, List, Option, Some, None, option_map}
+use Rattle.std.proofs.Common.{◌≡◌, ◌∙◌, ℕ, ap, sym, subst, refl, nat_eq, Bool, true, false, ◌&&◌, if◌then◌else◌, List, Option, Some, None, option_map, Result, Ok, Err, OnOk, OnErr}
 use Rattle.std.proofs.lemmas.Bool.{eqb-true}
 use Rattle.std.specs.BTreeMap.{is_at}
 use Rattle.std.specs.Cmp.Lexicographic.{slice_cmp}
@@ -136,3 +136,20 @@ lowered_current crates k config table old new are anew = record {
       ∙ ap (λ (c : CrateValue). source_tree_of (is_set c.config.options) (front_in c place) (source_at table place))
       (sym (other_crate crates k config krate.0 other)));
 }
+
+-- two facts of each answer
+on_both : {A B C D X T E : Type 0} (r : Result T E) → OnOk r A → OnOk r B → OnErr r C → OnErr r D → (A → B → X) → (C → D → X) → X
+on_both (Ok x) a b c d f g = f a b
+on_both (Err e) a b c d f g = g c d
+
+-- a crate was handed in, or all is as it was
+pub handed_current : {T E : Type 0} (r : Result T E) (old new : List CrateValue) (k : Crate) (config : ConfigValue) (table : SourceTable) (was is : SourceTrees)
+    → AreCurrent (workspace_in old table) was → OnOk r (new ≡ with_config old k.0 config) → OnOk r (AreLoweredAnew (crate_in new k.0) table k was is)
+    → OnErr r (new ≡ old) → OnErr r (is ≡ was) → AreCurrent (workspace_in new table) is
+handed_current r old new k config table was is are handed anew same kept = on_both r handed anew same kept
+    (λ there lowered. current_over (workspace_in (with_config old k.0 config) table) (workspace_in new table) is
+    (ap (λ (crates : List CrateValue). workspace_in crates table) (sym there))
+    (lowered_current old k.0 config table was is are
+    (subst (λ (crates : List CrateValue). AreLoweredAnew (crate_in crates k.0) table k was is) there lowered)))
+    (λ there trees. subst (λ (ts : SourceTrees). AreCurrent (workspace_in new table) ts) (sym trees)
+    (current_over (workspace_in old table) (workspace_in new table) was (ap (λ (crates : List CrateValue). workspace_in crates table) (sym there)) are))
