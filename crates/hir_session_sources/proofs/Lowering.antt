@@ -21,7 +21,8 @@ use Rattle.hir_session_state.specs.Crates.{CrateValue}
 use Rattle.hir_session_state.specs.Entries.{expansion_cmp}
 use Rattle.hir_session_state.specs.SourceTable.{SourceTable, front_in, source_at}
 use Rattle.hir_session_sources.specs.ByCrate.{entries_under, keys_under}
-use Rattle.hir_session_sources.specs.LoweredTrees.{kept_place, tree_for, AreLowered, AreLoweredAnew, HasLowered, IsTreeFor, LowerAlike, MayLower, lowers, leaves}
+use Rattle.hir_session_sources.specs.LoweredTrees.{kept_place, tree_for, AreLowered, AreLoweredAnew, HasLowered, IsTreeFor, LowerAlike}
+use Rattle.hir_session_sources.specs.LoweredTrees.{MayLower, lowers, leaves}
 use Rattle.hir_session_sources.specs.SourceTrees.{file_tree, is_place, tree_in}
 use Rattle.hir_session_sources.specs.declared.source_trees.SourceTrees.{SourceTrees}
 use Rattle.hir_session_sources.specs.declared.source_trees.lowering.LoweredTree.{LoweredTree}

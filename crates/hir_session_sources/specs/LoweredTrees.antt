@@ -33,8 +33,10 @@ abbrev pub IsTreeFor : CrateValue → SourceTable → LoweredTree → Type 0
 IsTreeFor c t lowered = lowered.tree.value ≡ tree_for c t (kept_place lowered.place)
 
 -- the source at the place is lowered for the crate, or nothing is kept of it
-pub data MayLower (c : CrateValue) (t : SourceTable) (krate : Crate) (trees : SourceTrees) (place : SourcePlaceValue) (old new : List LoweredTree) : Type 0 where
-  lowers : (lowered : LoweredTree) → kept_place lowered.place ≡ place → IsTreeFor c t lowered → new ≡ old ++ lowered ∷ [] → MayLower c t krate trees place old new
+pub data MayLower (c : CrateValue) (t : SourceTable) (krate : Crate) (trees : SourceTrees) (place : SourcePlaceValue)
+    (old new : List LoweredTree) : Type 0 where
+  lowers : (lowered : LoweredTree) → kept_place lowered.place ≡ place → IsTreeFor c t lowered → new ≡ old ++ lowered ∷ []
+      → MayLower c t krate trees place old new
   leaves : tree_in trees place krate ≡ None → new ≡ old → MayLower c t krate trees place old new
 
 -- the source at the place is among those that were lowered

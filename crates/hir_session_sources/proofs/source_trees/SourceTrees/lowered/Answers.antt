@@ -23,8 +23,8 @@ loop-place-preserved c =
     c.place-item.is in
     lowering-more c.args.info.now c.args.table.now c.args.krate c.args.self.now (source_value c.place-item.result) (map source_value (drop (k + 1) items))
     c.loop-place.lowered.items c.lower.new.lowered.items c.in_ok-lower.ensures.ok
-    (subst (λ (ps : List SourcePlace). IsLowering c.args.info.now c.args.table.now c.args.krate c.args.self.now (map source_value ps) c.loop-place.lowered.items)
-    next c.loop-place.invariant)
+    (subst (λ (ps : List SourcePlace). IsLowering c.args.info.now c.args.table.now c.args.krate c.args.self.now (map source_value ps)
+    c.loop-place.lowered.items) next c.loop-place.invariant)
 
 pub returns : goal.returns
 returns c = record {

@@ -6,4 +6,5 @@ use Rattle.hir_session_sources.proofs.source_trees.lowering.add_expansions.Given
 -- those so far, and those that are left, are all
 abbrev pub invariant-loop-key : goal.invariant-loop-key
 invariant-loop-key l =
-    map source_value l.places.items ++ map (λ key. expansion (expansion_value key)) l.key-iterator ≡ map source_value l.initial.places.items ++ map (λ key. expansion (expansion_value key)) (keys_under l.fn.trees l.fn.krate)
+    map source_value l.places.items ++ map (λ key. expansion (expansion_value key)) l.key-iterator
+    ≡ map source_value l.initial.places.items ++ map (λ key. expansion (expansion_value key)) (keys_under l.fn.trees l.fn.krate)
