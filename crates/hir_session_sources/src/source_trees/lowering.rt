@@ -1,7 +1,7 @@
 //! What is kept of sources under a crate, lowered anew where the crate is handed in with other data.
 //!
 //! All trees are made first, beside those that are kept. Then each takes the place of the one before it, which takes no memory.
-ghost use Rattle.std.specs.Prelude.{◌≡◌, ◌++◌, map, None, IfOk, OnOk, option_map, if◌then◌else◌, ◌&&◌, is_none, nat_eq, Contains};
+ghost use Rattle.std.specs.Prelude.{◌≡◌, ◌++◌, map, None, IfOk, OnOk, option_map, if◌then◌else◌, ◌&&◌, nat_eq, Contains};
 ghost use Rattle.hir_session_state.specs.HirIds.declared.ids.Crate.{Crate};
 ghost use Rattle.hir_session_state.specs.HirTables.SourcePlaces.{SourcePlaceValue, block, expansion, expansion_value, file, source_value};
 ghost use Rattle.hir_session_state.specs.Crates.{CrateValue};
