@@ -45,6 +45,15 @@ class Source:
         return ("file", self.file) if self.block is None else ("block", self.block)
 
 
+def key_words(key):
+    """The key of an expansion, as it is handed in."""
+    caller, krate, text, call, given, reached = key
+    words = {"call": json.loads(call), "caller": caller, "crate": krate, "input": given, "text": text}
+    if reached:
+        words["reached"] = [{"crate": number, "text": inner} for number, inner in reached]
+    return words
+
+
 def place_text(place):
     """A place as replies have it; within the model a block is the pair of its numbers."""
     return [element if not isinstance(element, tuple) else {"block": list(element)} for element in place]
@@ -182,32 +191,34 @@ class Crate:
         self.run()
 
     def begin(self):
-        self.imports, self.calls, self.edges, self.diagnostics, self.asked, self.modules = [], [], [], [], {}, []
+        self.imports, self.calls, self.edges, self.diagnostics, self.asked, self.words, self.modules = [], [], [], [], {}, {}, []
         self.helpers, self.derived, self.exported = {}, [], []
 
         for number in {self.number} | self.transitive:
-            self.ask(("config", number))
+            self.ask(("config", number), {"crate": number})
 
     def root_text(self):
         return {"crate": self.number, "kind": "CrateRoot"}
 
     # ---- what is asked for
 
-    def ask(self, key):
+    def ask(self, key, words):
+        """What is under a key, which replies tell by these words."""
         value = self.workspace.look(key)
         self.asked[key] = value
+        self.words.setdefault(key, set()).add(dump(words))
         return value
 
-    def tree(self, source):
-        """The unit of a source, and whether it is there."""
-        present, _ = self.ask(("tree", self.number) + source)
+    def tree(self, source, written):
+        """The unit of a source, which replies tell as written there, and whether it is there."""
+        present, _ = self.ask(("tree", self.number) + source, {"source": written})
         unit = self.workspace.unit(source)
         return (unit if isinstance(unit, dict) else {}), present
 
     # ---- the run
 
     def run(self):
-        unit, _ = self.tree(("file", self.fields["root"]))
+        unit, _ = self.tree(("file", self.fields["root"]), [self.fields["root"]])
         attrs, false = collect(self.fields.get("attrs", []) + unit.get("attrs", []), self.options)
         flags = {attr["path"] for attr in attrs}
         self.edition = self.fields["edition"]
@@ -293,8 +304,8 @@ class Crate:
                 return True
         if deep:
             return True
-        there, error, _ = self.ask(("entry", key))
-        unit, _ = self.tree(("entry", key))
+        there, error, _ = self.ask(("entry", key), {"expansion": key_words(key)})
+        unit, _ = self.tree(("entry", key), call.source.text() + [call.kind()])
         if not there or error is not None:
             item = {"id": call.node["id"], "in": call.source.text(), "kind": call.node["kind"]}
             self.tell("macro error", call.at, item=item, path=print_path(call.path), error=error if there else "absent")
@@ -305,12 +316,13 @@ class Crate:
     def text_of(macro, look):
         if macro.exported is not None:
             return macro.exported
-        return look(("text", macro.krate.number) + macro.source.key() + (macro.kind, tuple(macro.id)))
+        return look(("text", macro.krate.number) + macro.source.key() + (macro.kind, tuple(macro.id)), {"macro": macro.text()})
 
     def first_key(self, call, macro, look):
         """The key of a call's expansion while no path in its input is resolved."""
         text = self.text_of(macro, look)
-        given = look(("input", self.number) + call.source.key() + (call.node["kind"], tuple(call.node["id"])))
+        words = {"call": {"id": call.node["id"], "in": call.source.text(), "kind": call.node["kind"]}}
+        given = look(("input", self.number) + call.source.key() + (call.node["kind"], tuple(call.node["id"])), words)
         style = call.style if call.style != "attr" else ["attr", call.attr]
         return self.number, macro.krate.number, text, dump(style), given, ()
 
@@ -328,7 +340,7 @@ class Crate:
         """The key once the paths that the macro asks for reach macros; None while one of them reaches none."""
         if macro.expander != "builtin_eager":
             return key
-        macros, missing = self.inner_macros(at, look(("entry", key))[2])
+        macros, missing = self.inner_macros(at, look(("entry", key), {"expansion": key_words(key)})[2])
         if missing is not None:
             return None
         return key[:-1] + (tuple((inner.krate.number, self.text_of(inner, look)) for inner in macros),)
@@ -341,7 +353,7 @@ class Crate:
         found, _, _ = self.resolve(call.at, call.path, style="bang" if call.style == "bang" else "attr")
         if call.style != "derive" and "macros" in found and found["macros"].definition.expander == "builtin_eager":
             macro, look = found["macros"].definition, self.workspace.look
-            paths = look(("entry", self.first_key(call, macro, look)))[2]
+            paths = look(("entry", self.first_key(call, macro, look)), None)[2]
             _, missing = self.inner_macros(call.at, paths)
             if missing is not None:
                 return print_path(parse_path(missing))
@@ -491,7 +503,7 @@ class Crate:
         types, values = {"types": bound}, {"values": bound}
         kind = node["kind"]
         if kind == "Enum":
-            named = self.ask(("variants", self.number) + item.source.key() + (tuple(item.id),))
+            named = self.ask(("variants", self.number) + item.source.key() + (tuple(item.id),), {"enum": item.text()})
             item.variants = {name: (Item(self, "Variant", json.loads(node_id), item.source), shape) for name, node_id, shape in named}
         if kind == "Struct" and node.get("shape", "unit") != "record":
             constructor = own
@@ -600,7 +612,7 @@ class Crate:
                 file = file.removeprefix("/@/") if file.startswith("/@/") else None
                 if file is None:
                     continue
-                unit, present = self.tree(("file", file))
+                unit, present = self.tree(("file", file), [file])
                 if not present:
                     continue
                 if deep + 1 > DEEPEST:
@@ -1007,7 +1019,7 @@ class Block(Crate):
         self.begin()
         self.root = Module(self, None, None, ("", False, 0), holder.file)
         self.macro_use, self.prelude = {}, None
-        unit, _ = self.tree(("block", place))
+        unit, _ = self.tree(("block", place), [place_text(place)])
         self.walk(unit.get("nodes", []), self.root, Source(block=place), 1)
         self.rounds()
 

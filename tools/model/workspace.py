@@ -15,6 +15,8 @@ class Workspace:
     def __init__(self):
         self.crates, self.files, self.entries, self.blocks = [], {}, {}, {}
         self.maps, self.block_maps = {}, {}
+        # of the crates and blocks that were resolved once, the keys that the edit altered by which each became stale
+        self.altered = {}
 
     # ---- sources and keys
 
@@ -38,8 +40,8 @@ class Workspace:
         nodes = (node for node in self.nodes(item.source.key()) if node["kind"] == item.kind and node["id"] == item.id)
         return next((node["items"] for node in nodes), [])
 
-    def look(self, key):
-        """What a run finds under a key: a text, a number or a tuple of them."""
+    def look(self, key, words=None):
+        """What a run finds under a key: a text, a number or a tuple of them. How replies tell the key doesn't matter here."""
         kind = key[0]
         if kind == "entry":
             entry = self.entries.get(key[1])
@@ -88,11 +90,16 @@ class Workspace:
 
     # ---- edits
 
-    def edit(self, change):
+    def edit(self, change, krate=None):
+        """Makes a change; one of what a crate is handed in with is told by that alone, and makes its dependents stale behind it."""
         change()
         for kept in (self.maps, self.block_maps):
-            for place in [place for place, map_ in kept.items() if any(self.look(key) != value for key, value in map_.asked.items())]:
-                del kept[place]
+            for place, map_ in list(kept.items()):
+                altered = [key for key, value in map_.asked.items() if self.look(key) != value]
+                if altered:
+                    own = altered if krate is None else [("config", krate)] if kept is self.maps and place == krate else []
+                    self.altered[place] = set().union(*(map_.words[key] for key in own))
+                    del kept[place]
         for number in [number for number in self.maps if self.maps[number].transitive - set(self.maps)]:
             del self.maps[number]
         # a block has outer ones around it, which are looked at before it
@@ -108,7 +115,7 @@ class Workspace:
             return {"crate": number, "error": "dependency order"}
         stays = {name: value for name, value in self.crates[number].items() if name in ("root", "proc_macro")}
         gets = {name: value for name, value in to.items() if name not in ("root", "proc_macro")}
-        self.edit(lambda: self.crates.__setitem__(number, {**gets, **stays}))
+        self.edit(lambda: self.crates.__setitem__(number, {**gets, **stays}), number)
         return {"ok": None}
 
     def edit_expansion(self, command):
@@ -140,12 +147,14 @@ class Workspace:
         due = [(number,) for number in range(len(self.crates)) if number not in self.maps]
         for (number,) in due:
             self.maps[number] = Crate(number, self.crates[number], self, self.maps)
+            self.altered[number] = set()
         for place in sorted(self.blocks, key=lambda place: (nesting(place), order(place))):
             if place in self.block_maps:
                 continue
             _, holder = self.status(place[:-1])
             if holder is not None:
                 self.block_maps[place] = Block(place, holder, self)
+                self.altered[place] = set()
                 due.append(place)
         return [place_text(place) for place in due]
 
@@ -191,6 +200,30 @@ class Workspace:
             return {"ok": trait.krate.held(trait)}
         found, stop, _ = at.map.resolve(at, parse_path(command["path"]), shadow=command.get("shadow", "other"), style=command.get("sub"))
         return {"ok": {"stop": stop, **{ns: self.answer(found.get(ns)) for ns in KINDS}}}
+
+    def why(self, place):
+        """Why a place is stale: the keys that were altered as a set, though the reply lists the first of them."""
+        status, _ = self.status(place)
+        if status != "stale":
+            return {"error": "unknown place"} if status == "unknown" else None
+        count = max((length for length in range(2, len(place) + 1) if isinstance(place[length - 1], tuple)), default=0)
+        own = place[:count] if count else place[0]
+        if own not in self.altered or (count and own not in self.blocks):
+            return {"ok": "never resolved"}
+        if self.altered[own]:
+            return {"ok": {"edited": self.altered[own]}}
+        return {"ok": {"behind": self.behind(place, count)}}
+
+    def behind(self, place, count):
+        """The stale places on which a crate or a block stands directly."""
+        if not count:
+            below = {dependency["crate"] for dependency in self.crates[place[0]].get("deps", [])}
+            return [[number] for number in sorted(below) if number not in self.maps]
+        outer = max((length for length in range(2, count) if isinstance(place[length - 1], tuple)), default=0)
+        behind = [] if place[0] in self.maps else [[place[0]]]
+        if outer and place[:outer] in self.blocks and place[:outer] not in self.block_maps:
+            behind.append(place_text(place[:outer]))
+        return behind
 
     @staticmethod
     def answer(binding):
@@ -238,6 +271,8 @@ class Workspace:
             return {"ok": None}
         if do == "refresh":
             return {"ok": self.refresh()}
+        if do == "why":
+            return self.why(read_place(command["at"]))
         if do == "status":
             return {"ok": self.status(read_place(command["at"]))[0]}
         if do in ("resolve", "dump", "names", "path to", "trait items", "impl items"):

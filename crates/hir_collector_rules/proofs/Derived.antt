@@ -347,6 +347,7 @@ module _ (tables : TablesValue) (v : Workspace) (before : Maps) (from : Beginnin
               ∙ ap (λ (maps : Maps). with_diagnostics (ended c) (leftover_reports maps c)) (sym reads_same);
           local_is = ap (λ (a : CollectedValue). a.local) is;
           leftover_is = ap (λ (a : CollectedValue). a.leftover) is;
+          steps_is = ap (λ (a : CollectedValue). a.steps) is;
           asked_is = keys_are ∙ ap (λ (crates : List Crate). c.asked ++ keys_behind krate crates) (sym transitive_same);
           dependencies_are = dependencies_are ∙ sym transitive_same;
           caused = caused_over;

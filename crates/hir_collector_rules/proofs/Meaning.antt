@@ -465,7 +465,14 @@ answers_stand tables grown w finished from answer kept there e =
     e.asked_is
     ∙ ap (λ (krate : Crate). e.last.core.asked ++ keys_behind krate transitive) (sym (ap (λ (id : MapId). id.krate) (id-Steps e.derived))) in
     let is : answer ≡ finished_run (read_by w finished from.start) e.last.core answer.round_limit_met transitive =
-    λ i. record { map = e.map_is i; local = e.local_is i; leftover = e.leftover_is i; round_limit_met = answer.round_limit_met; asked = asked i } in
+    λ i. record {
+      map = e.map_is i;
+      local = e.local_is i;
+      leftover = e.leftover_is i;
+      round_limit_met = answer.round_limit_met;
+      steps = e.steps_is i;
+      asked = asked i;
+    } in
     ends_alike tables w finished from e.last answer.round_limit_met answer e.derived is
     (record {
       kept = kept;

@@ -76,12 +76,15 @@ pub record CollectedValue : Type 0 where
   pub leftover : List ImportOrExternCrate
   -- whether rounds of calls were cut off
   pub round_limit_met : Bool
+  -- how many steps were taken
+  pub steps : ℕ
   -- the keys that were asked for
   pub asked : List Key
 
 -- the plain value of what a run answers
 abbrev pub collected_view : Collected → CollectedValue
-collected_view c = record { map = c.map; local = c.local; leftover = c.leftover.items; round_limit_met = c.round_limit_met; asked = c.asked }
+collected_view c =
+    record { map = c.map; local = c.local; leftover = c.leftover.items; round_limit_met = c.round_limit_met; steps = c.steps; asked = c.asked }
 
 -- what a run answers that comes to this, where this is told of its calls, whether or not rounds of calls were cut off, of a crate with these transitive dependencies
 abbrev pub told_run : Core → List DefDiagnostic → Bool → List Crate → CollectedValue
@@ -90,6 +93,7 @@ told_run c calls_told round_limit_met transitive = record {
   local = c.local;
   leftover = leftover_among c.reached c.taken;
   round_limit_met = round_limit_met;
+  steps = c.count;
   asked = c.asked ++ keys_behind c.map.id.krate transitive;
 }
 
@@ -122,6 +126,7 @@ pub record Ends (tables : TablesValue) (w : Workspace) (finished : Maps) (from :
   pub map_is : answer.map ≡ with_diagnostics (ended last.core) (leftover_reports (read_by w finished from.start) last.core)
   pub local_is : answer.local ≡ last.core.local
   pub leftover_is : answer.leftover ≡ leftover_among last.core.reached last.core.taken
+  pub steps_is : answer.steps ≡ last.core.count
   -- what the steps asked for, the map of each crate on which the run's crate depends, and what these and the run's crate were handed in with
   pub asked_is : answer.asked ≡ last.core.asked ++ keys_behind (krate_of from.start) (transitive_dependencies_in w (krate_of from.start))
   pub dependencies_are : answer.map.crate_data.dependencies ≡ transitive_dependencies_in w (krate_of from.start)

@@ -1,5 +1,5 @@
 //! What a run answers.
-ghost use Rattle.std.specs.Prelude.{◌≡◌, ◌++◌, List};
+ghost use Rattle.std.specs.Prelude.{◌≡◌, ◌++◌, List, length};
 ghost use Rattle.std.specs.Iterator.{YieldsFirst, item_count};
 ghost use Rattle.hir_collector_rules.specs.Asked.{IsOwnPart};
 ghost use Rattle.hir_collector_rules.specs.Keys.{keys_behind};
@@ -25,6 +25,8 @@ pub struct Collected {
     pub leftover: Vec<ImportOrExternCrate>,
     /// Whether rounds of calls were cut off: more than `ROUND_LIMIT` of them handled a call.
     pub round_limit_met: bool,
+    /// How many steps the run took.
+    pub steps: u32,
     /// What was asked for.
     pub asked: Asked,
 }
@@ -66,6 +68,13 @@ impl Asked {
         ensures value { IsOwnPart result.now self.now }
     {
         self.own.as_slice()
+    }
+
+    /// How many keys there are, one as often as it was asked for.
+    pub fn len(&self) -> usize
+        ensures value { result ≡ length self.now }
+    {
+        self.own.len() + 1 + 2 * self.dependencies.len()
     }
 
     /// The keys, those of steps first.

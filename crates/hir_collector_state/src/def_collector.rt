@@ -728,6 +728,7 @@ impl DefCollector {
             local: self.local,
             leftover,
             round_limit_met,
+            steps: self.count,
             asked: Asked::new(self.asked, krate, transitive),
         })
     }

@@ -56,6 +56,8 @@ pub data CommandValue : Type 0 where
   file_modules : List ℕ → CommandValue
   -- of a definition in a namespace, by a path that begins so, of at most so many segments
   path_to : PlaceValue → Definition → Namespace → PathPrefix → ℕ → CommandValue
+  -- of a place
+  reason : PlaceValue → CommandValue
   -- of a crate, and a file
   tree : Crate → List ℕ → CommandValue
 
@@ -74,4 +76,5 @@ command_view (command.Names at) = names at
 command_view (command.CrateModules krate) = crate_modules krate
 command_view (command.FileModules file) = file_modules file
 command_view (command.PathTo at def ns prefix most) = path_to at def ns prefix most
+command_view (command.Why at) = reason at
 command_view (command.Tree krate file) = tree krate file

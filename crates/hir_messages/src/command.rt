@@ -173,6 +173,10 @@ pub enum Command {
         prefix: PathPrefix,
         most: u32,
     },
+    /// Why a place is stale, or what its resolution took.
+    Why {
+        at: Place,
+    },
     /// The page of a file's tree in a crate.
     Tree {
         krate: Crate,

@@ -8,3 +8,4 @@ pub mod edit;
 pub mod items;
 pub mod names;
 pub mod reply;
+pub mod why;

@@ -5,6 +5,7 @@ use crate::answer::Answer;
 use crate::diagnostic::Diagnostics;
 use crate::items::Items;
 use crate::names::BoundNames;
+use crate::why::Why;
 use hir_base::ast_id::{AstKind, SyntaxId};
 use hir_base::ids::Crate;
 use hir_base::limit::Limit;
@@ -62,6 +63,7 @@ pub enum Reply {
     Names(BoundNames),
     /// A path that names a definition, where one does.
     Path(Option<ModPath>),
+    Why(Why),
     /// A page.
     Text(String),
     /// The line is no JSON.

@@ -1,13 +1,15 @@
 //! The first names of paths without a root, and of those that begin with `::`.
 
 use crate::ending::{Ending, better};
+use crate::index::{Indexes, NameAt};
 use crate::look::{Look, Step, add_look, leads_on};
-use crate::search::{PathSearch, is_block_root};
+use crate::search::{PathSearch, is_block_root, names_of};
 use crate::sought::Sought;
 use hir_base::builtin_type::all_builtin_types;
 use hir_base::ids::{MapId, ModuleDefId, ModuleId};
 use hir_base::mod_path::PathKind;
 use hir_base::name::Name;
+use hir_nameres::hir_scope::item_scope::ItemScope;
 use hir_nameres::hir_scope::per_ns::PerNs;
 use hir_nameres::hir_scope::visibility::Visibility;
 use hir_nameres::nameres::path_resolution::BuiltinShadowMode;
@@ -29,13 +31,13 @@ fn crate_root(of: ModuleId) -> ModuleId {
 
 /// First names that are asked for from these modules by a path of this kind.
 #[derive(Drop)]
-struct Gathering<'a, 'b, S> {
-    search: &'a PathSearch<'b, S>,
+struct Gathering<'a, 'b, S, I> {
+    search: &'a PathSearch<'b, S, I>,
     askers: &'a [ModuleId],
     kind: PathKind,
 }
 
-impl<S: Sought> Gathering<'_, '_, S> {
+impl<S: Sought, I: Indexes> Gathering<'_, '_, S, I> {
     /// What a first name stands for, asked for from one module.
     fn named_at(&self, shadow: BuiltinShadowMode, asker: ModuleId, name: &Name) -> PerNs {
         let query = self.search.query();
@@ -154,6 +156,53 @@ impl<S: Sought> Gathering<'_, '_, S> {
         }
     }
 
+    /// The names of a scope.
+    fn meet_all(
+        &self,
+        alloc: Global,
+        found: &mut FirstNames,
+        scope: &ItemScope,
+    ) -> Result<(), AllocError> {
+        for (name, items) in scope.entries() {
+            self.meet(alloc, found, name, items)?;
+        }
+        Ok(())
+    }
+
+    /// Those of them that stand at these positions.
+    fn meet_leading(
+        &self,
+        alloc: Global,
+        found: &mut FirstNames,
+        scope: &ItemScope,
+        positions: &[u32],
+    ) -> Result<(), AllocError> {
+        for position in positions {
+            if let Some((name, items)) = scope.entry(*position as usize) {
+                self.meet(alloc, found, name, items)?;
+            }
+        }
+        Ok(())
+    }
+
+    /// And those that are bound to what is sought.
+    fn meet_bound(
+        &self,
+        alloc: Global,
+        found: &mut FirstNames,
+        scope: &ItemScope,
+        names: &[NameAt],
+    ) -> Result<(), AllocError> {
+        for at in names {
+            if let Some((name, items)) = scope.entry(at.position as usize) {
+                if self.search.sought_in(alloc, items)?.is_some() {
+                    self.end(alloc, found, name)?;
+                }
+            }
+        }
+        Ok(())
+    }
+
     /// The names of a module.
     fn meet_scope(
         &self,
@@ -165,10 +214,17 @@ impl<S: Sought> Gathering<'_, '_, S> {
         let Some(scope) = search.scope(module) else {
             return Ok(());
         };
-        for (name, items) in scope.entries() {
-            self.meet(alloc, found, name, items)?;
+        let Some(index) = search.indexes.index(module.map) else {
+            return self.meet_all(alloc, found, scope);
+        };
+        self.meet_leading(alloc, found, scope, index.leading(module.index))?;
+        match search.sought.key() {
+            Some(key) => {
+                let names = names_of(index.bound(key), module.index);
+                self.meet_bound(alloc, found, scope, names)
+            }
+            None => Ok(()),
         }
-        Ok(())
     }
 
     /// The macros in textual scope in a module.
@@ -271,9 +327,9 @@ impl<S: Sought> Gathering<'_, '_, S> {
 }
 
 /// The first names of a path that has no root.
-pub fn first_names<S: Sought>(
+pub fn first_names<S: Sought, I: Indexes>(
     alloc: Global,
-    search: &PathSearch<'_, S>,
+    search: &PathSearch<'_, S, I>,
     askers: &[ModuleId],
     kind: PathKind,
 ) -> Result<FirstNames, AllocError> {

@@ -6,21 +6,18 @@
 //!
 //! The search goes forward from each start of paths, segment by segment. Where a path has come to is a list of definitions
 //! (`Look`), one for each map whose answer counts: more than one only inside blocks. Whatever comes after depends on nothing
-//! else, so the best ending of so many segments is found once for each such list.
+//! else, so the best ending of so many segments is found once for each such list. The names of a module that lead on, and those
+//! that are bound to what is sought, are those that the index of its map has, where it has one, and else those of all its names.
 #![tactic(auto)]
 
 mod ending;
 mod first_names;
+pub mod index;
 mod look;
 mod memo;
 pub mod search;
 pub mod sought;
 
+pub use index::{Indexes, MapIndex};
 pub use search::{PathPrefix, find_path};
-pub use sought::Sought;
-
-#[cfg(test)]
-mod tests {
-    #[test]
-    fn nothing() {}
-}
+pub use sought::{DefKey, NodeKind, Sought};

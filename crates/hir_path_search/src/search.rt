@@ -2,6 +2,7 @@
 
 use crate::ending::{Ending, better};
 use crate::first_names::{FirstNames, first_names};
+use crate::index::{Indexes, NameAt};
 use crate::look::{Look, Step, add_look, joined_behind, leads_on, next_looks};
 use crate::memo::Memo;
 use crate::sought::{Named, Sought, named_in};
@@ -29,15 +30,16 @@ pub enum PathPrefix {
 
 /// What is looked for, from where, and over which maps.
 #[derive(Drop)]
-pub struct PathSearch<'a, S> {
+pub struct PathSearch<'a, S, I> {
     pub maps: DefMaps<'a>,
     pub local: &'a LocalDefMap,
     pub at: ModuleId,
     pub sought: &'a S,
+    pub indexes: &'a I,
     pub namespace: Namespace,
 }
 
-impl<S: Sought> PathSearch<'_, S> {
+impl<S: Sought, I: Indexes> PathSearch<'_, S, I> {
     /// How paths are asked for.
     pub fn query(&self) -> Query<'_> {
         Query {
@@ -169,6 +171,67 @@ impl<S: Sought> PathSearch<'_, S> {
         Ok(best)
     }
 
+    /// The best last name among those of a module, and one that is known.
+    fn last_in_module(
+        &self,
+        alloc: Global,
+        looks: &[Look],
+        module: ModuleId,
+        best: Option<Ending>,
+    ) -> Result<Option<Ending>, AllocError> {
+        let Some(scope) = self.scope(module) else {
+            return Ok(best);
+        };
+        let Some(index) = self.indexes.index(module.map) else {
+            return self.last_in_scope(alloc, looks, scope, best);
+        };
+        match self.sought.key() {
+            Some(key) => {
+                let names = names_of(index.bound(key), module.index);
+                self.last_bound(alloc, looks, scope, names, best)
+            }
+            None => {
+                self.last_leading(alloc, looks, scope, index.leading(module.index), best)
+            }
+        }
+    }
+
+    /// The best last name among some of a scope, and one that is known.
+    fn last_bound(
+        &self,
+        alloc: Global,
+        looks: &[Look],
+        scope: &ItemScope,
+        names: &[NameAt],
+        best: Option<Ending>,
+    ) -> Result<Option<Ending>, AllocError> {
+        let mut best = best;
+        for at in names {
+            if let Some((name, _)) = scope.entry(at.position as usize) {
+                best = better(best, self.last(alloc, looks, name)?);
+            }
+        }
+        Ok(best)
+    }
+
+    /// The same among those at some positions.
+    fn last_leading(
+        &self,
+        alloc: Global,
+        looks: &[Look],
+        scope: &ItemScope,
+        positions: &[u32],
+        best: Option<Ending>,
+    ) -> Result<Option<Ending>, AllocError> {
+        let mut best = best;
+        for position in positions {
+            if let Some((name, _)) = scope.entry(*position as usize) {
+                best = better(best, self.last(alloc, looks, name)?);
+            }
+        }
+        Ok(best)
+    }
+
     /// The names of a module.
     pub fn scope(&self, module: ModuleId) -> Option<&ItemScope> {
         self.maps.map(module.map)?.scope(module.index)
@@ -179,10 +242,7 @@ impl<S: Sought> PathSearch<'_, S> {
         let mut best = None;
         for look in looks {
             best = match look.def {
-                ModuleDefId::ModuleId(module) => match self.scope(module) {
-                    Some(scope) => self.last_in_scope(alloc, looks, scope, best)?,
-                    None => best,
-                },
+                ModuleDefId::ModuleId(module) => self.last_in_module(alloc, looks, module, best)?,
                 ModuleDefId::AdtId(AdtId::EnumId(id)) => {
                     self.last_in_enum(alloc, looks, id, best)?
                 }
@@ -224,6 +284,44 @@ impl<S: Sought> PathSearch<'_, S> {
         Ok(())
     }
 
+    /// The names of a scope that lead on, which stand at these positions.
+    fn add_steps_at(
+        &self,
+        alloc: Global,
+        looks: &[Look],
+        scope: &ItemScope,
+        positions: &[u32],
+        steps: &mut Vec<Step>,
+    ) -> Result<(), AllocError> {
+        for position in positions {
+            if let Some((name, _)) = scope.entry(*position as usize) {
+                if let Some(step) = self.step(alloc, looks, name)? {
+                    steps.push(step)?;
+                }
+            }
+        }
+        Ok(())
+    }
+
+    /// The names of a module that lead on.
+    fn add_steps_in(
+        &self,
+        alloc: Global,
+        looks: &[Look],
+        module: ModuleId,
+        steps: &mut Vec<Step>,
+    ) -> Result<(), AllocError> {
+        let Some(scope) = self.scope(module) else {
+            return Ok(());
+        };
+        match self.indexes.index(module.map) {
+            Some(index) => {
+                self.add_steps_at(alloc, looks, scope, index.leading(module.index), steps)
+            }
+            None => self.add_steps(alloc, looks, scope, steps),
+        }
+    }
+
     /// The names that lead on behind what a path has come to, which are looked for once.
     fn steps(
         &self,
@@ -244,9 +342,7 @@ impl<S: Sought> PathSearch<'_, S> {
         let mut steps = Vec::new(alloc);
         for look in looks {
             if let ModuleDefId::ModuleId(module) = look.def {
-                if let Some(scope) = self.scope(module) {
-                    self.add_steps(alloc, looks, scope, &mut steps)?;
-                }
+                self.add_steps_in(alloc, looks, module, &mut steps)?;
             }
         }
         Ok(steps)
@@ -368,6 +464,38 @@ impl<S: Sought> PathSearch<'_, S> {
     }
 }
 
+/// Those of a module among names that are in the order of their modules.
+pub fn names_of(names: &[NameAt], module: u32) -> &[NameAt] {
+    let from = first_from(names, module);
+    let (_, behind) = names.split_at(from);
+    let count = first_behind(behind, module);
+    let (own, _) = behind.split_at(count);
+    own
+}
+
+/// How many names are of modules before one.
+fn first_from(names: &[NameAt], module: u32) -> usize {
+    let mut low = 0;
+    let mut high = names.len();
+    'halve: while low < high {
+        let middle = low + (high - low) / 2;
+        if names[middle].module < module {
+            low = middle + 1;
+        } else {
+            high = middle;
+        }
+    }
+    low
+}
+
+/// How many names come before the first of a module behind one.
+fn first_behind(names: &[NameAt], module: u32) -> usize {
+    match module.checked_add(1) {
+        Some(next) => first_from(names, next),
+        None => names.len(),
+    }
+}
+
 /// Whether a module is the root of a block's map.
 pub fn is_block_root(at: ModuleId) -> bool {
     at.map.block.is_some() && at.index == 0
@@ -391,7 +519,7 @@ enum Start {
     Names(PathKind, FirstNames),
 }
 
-impl<S: Sought> PathSearch<'_, S> {
+impl<S: Sought, I: Indexes> PathSearch<'_, S, I> {
     /// The best path of so many segments from a start.
     fn best_from(
         &self,
@@ -521,12 +649,13 @@ impl<S: Sought> PathSearch<'_, S> {
 }
 
 /// The best path that names what is sought in a namespace, asked from a module: one of at most so many segments.
-pub fn find_path<S: Sought>(
+pub fn find_path<S: Sought, I: Indexes>(
     alloc: Global,
     maps: &DefMaps<'_>,
     local: &LocalDefMap,
     at: ModuleId,
     sought: &S,
+    indexes: &I,
     namespace: Namespace,
     prefix: PathPrefix,
     most: usize,
@@ -536,6 +665,7 @@ pub fn find_path<S: Sought>(
         local,
         at,
         sought,
+        indexes,
         namespace,
     };
     let starts = search.starts(alloc, prefix)?;

@@ -12,6 +12,7 @@ pub mod Dumps
 pub mod Names
 pub mod NamesStand
 pub mod PathsTo
+pub mod Why
 pub mod Modules
 pub mod AssocItems
 pub mod ItemsStand

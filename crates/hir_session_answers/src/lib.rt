@@ -11,3 +11,4 @@ pub mod names;
 pub mod paths;
 pub mod source_items;
 pub mod standing;
+pub mod why;

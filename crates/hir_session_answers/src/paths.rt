@@ -4,11 +4,10 @@ ghost use Rattle.std.specs.Prelude.{◌≡◌, ◌&&◌, nat_le, length};
 ghost use Rattle.hir_session_answers.specs.PathsTo.{answered_in, begins_so, is_item_of, names_definition};
 
 use crate::source_items::definitions::definition_at;
-use hir_base::ast_id::{AstKind, SyntaxId};
-use hir_base::ids::{AdtId, Crate, ItemContainerId, ModuleDefId, ModuleId};
-use hir_base::macro_kind::MacroId;
+use hir_base::ast_id::AstKind;
+use hir_base::ids::{ModuleDefId, ModuleId};
 use hir_base::mod_path::{MAX_SEGMENTS, ModPath, PathKind};
-use hir_path_search::{self, Sought, find_path};
+use hir_path_search::{self, DefKey, Indexes, NodeKind, Sought, find_path};
 use hir_session_state::hir_def_map::def_maps::DefMaps;
 use hir_session_state::hir_def_map::nameres::local_def_map::LocalDefMap;
 use hir_session_state::hir_messages::answer::{Answer, AnswerItem, Definition, SourceKind};
@@ -25,102 +24,41 @@ struct SoughtDefinition<'a> {
     definition: &'a Definition,
 }
 
-/// The crate of what holds an item.
-fn crate_at(container: ItemContainerId) -> Crate {
-    match container {
-        ItemContainerId::ExternBlockId(block) => block.loc.container.map.krate,
-        ItemContainerId::ModuleId(module) => module.map.krate,
-        ItemContainerId::ImplId(imp) => imp.loc.container.map.krate,
-        ItemContainerId::TraitId(tr) => tr.loc.container.map.krate,
+/// The kind of a node that defines something; a module has none.
+fn node_kind(kind: SourceKind) -> Option<NodeKind> {
+    match kind {
+        SourceKind::Node(AstKind::Module) => None,
+        SourceKind::Node(kind) => Some(NodeKind::Node(kind)),
+        SourceKind::ProcMacro => Some(NodeKind::ProcMacro),
     }
 }
 
-/// What tells most definitions of nodes apart: the crate, the kind, and the node's id where it is written.
-#[derive(Clone, Copy)]
-struct NodeKey {
-    krate: Crate,
-    kind: SourceKind,
-    id: SyntaxId,
-}
-
-fn key_of(krate: Crate, kind: AstKind, id: SyntaxId) -> Option<NodeKey> {
-    Some(NodeKey {
-        krate,
-        kind: SourceKind::Node(kind),
-        id,
-    })
-}
-
-fn adt_key(adt: AdtId) -> Option<NodeKey> {
-    match adt {
-        AdtId::StructId(i) => key_of(i.loc.container.map.krate, AstKind::Struct, i.loc.id),
-        AdtId::UnionId(i) => key_of(i.loc.container.map.krate, AstKind::Union, i.loc.id),
-        AdtId::EnumId(i) => key_of(i.loc.container.map.krate, AstKind::Enum, i.loc.id),
-    }
-}
-
-fn macro_key(makro: MacroId) -> Option<NodeKey> {
-    match makro {
-        MacroId::Macro2Id(i) => key_of(i.loc.container.map.krate, AstKind::MacroDef, i.loc.id),
-        MacroId::MacroRulesId(i) => {
-            key_of(i.loc.container.map.krate, AstKind::MacroRules, i.loc.id)
-        }
-        MacroId::ProcMacroId(i) => Some(NodeKey {
-            krate: i.loc.container.map.krate,
-            kind: SourceKind::ProcMacro,
-            id: i.loc.id,
-        }),
-    }
-}
-
-/// The key of what a node writes that isn't a module.
-fn node_key(def: ModuleDefId) -> Option<NodeKey> {
-    match def {
-        ModuleDefId::ModuleId(_) | ModuleDefId::BuiltinType(_) => None,
-        ModuleDefId::FunctionId(i) => key_of(crate_at(i.loc.container), AstKind::Fn, i.loc.id),
-        ModuleDefId::AdtId(adt) => adt_key(adt),
-        ModuleDefId::EnumVariantId(i) => {
-            key_of(i.parent.loc.container.map.krate, AstKind::Variant, i.id)
-        }
-        ModuleDefId::ConstId(i) => key_of(crate_at(i.loc.container), AstKind::Const, i.loc.id),
-        ModuleDefId::StaticId(i) => key_of(crate_at(i.loc.container), AstKind::Static, i.loc.id),
-        ModuleDefId::TraitId(i) => key_of(i.loc.container.map.krate, AstKind::Trait, i.loc.id),
-        ModuleDefId::TypeAliasId(i) => {
-            key_of(crate_at(i.loc.container), AstKind::TypeAlias, i.loc.id)
-        }
-        ModuleDefId::MacroId(makro) => macro_key(makro),
-    }
-}
-
-/// Whether a definition of a node may have this key.
-fn may_have(definition: &Definition, key: NodeKey) -> bool {
+/// The key that definitions have which are written so; None for modules.
+fn key_of(definition: &Definition) -> Option<DefKey> {
     match definition {
-        Definition::Item { krate, item } => {
-            key.id == item.id && key.kind == item.kind && key.krate == *krate
-        }
-        _ => false,
-    }
-}
-
-impl SoughtDefinition<'_> {
-    /// Whether a definition may be the one that is looked for; it takes no memory.
-    fn may_be(&self, def: ModuleDefId) -> bool {
-        match node_key(def) {
-            Some(key) => may_have(self.definition, key),
-            None => true,
-        }
+        Definition::Builtin(builtin) => Some(DefKey::Builtin(*builtin)),
+        Definition::CrateRoot(_) | Definition::BlockRoot { .. } => None,
+        Definition::Item { krate, item } => Some(DefKey::Node {
+            krate: *krate,
+            kind: node_kind(item.kind)?,
+            id: item.id,
+        }),
     }
 }
 
 impl Sought for SoughtDefinition<'_> {
     fn is(&self, alloc: Global, def: ModuleDefId) -> Result<bool, AllocError> {
-        if !self.may_be(def) {
+        if DefKey::of(def) != key_of(self.definition) {
             return Ok(false);
         }
         match definition_at(alloc, self.tables, self.maps, def)? {
             Some(found) => Ok(found == *self.definition),
             None => Ok(false),
         }
+    }
+
+    fn key(&self) -> Option<DefKey> {
+        key_of(self.definition)
     }
 }
 
@@ -188,11 +126,12 @@ pub fn names_definition(namespace: Namespace, answer: &Answer, definition: &Defi
 }
 
 /// A shortest path that names a definition, asked from a module of one of the maps.
-pub fn path_at(
+pub fn path_at<I: Indexes>(
     alloc: Global,
     tables: &Tables,
     maps: &DefMaps<'_>,
     local: &LocalDefMap,
+    indexes: &I,
     at: ModuleId,
     definition: &Definition,
     namespace: Namespace,
@@ -215,6 +154,7 @@ pub fn path_at(
         local,
         at,
         &sought,
+        indexes,
         namespace_of(namespace),
         prefix_of(prefix),
         most,

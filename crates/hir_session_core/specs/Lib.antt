@@ -1,6 +1,7 @@
 pub mod Progress
 pub mod BlockVerdicts
 pub mod CrateEdits
+pub mod Explained
 pub use Rattle.hir_session_state.specs.HirBase as HirBase
 pub use Rattle.hir_session_state.specs.HirCollectorRules as HirCollectorRules
 pub use Rattle.hir_session_state.specs.HirDefCollectorLaws as HirDefCollectorLaws

@@ -34,8 +34,9 @@ mod crates;
 mod pending;
 mod queries;
 mod refresh;
+mod why;
 
-use self::pending::{PendingBlock, forget};
+use self::pending::{PendingBlock, explain_each, forget};
 use hir_base::file_path::FilePath;
 use hir_base::ids::Crate;
 use hir_base::limit::Limit;
@@ -197,7 +198,11 @@ impl Session {
             path: &file,
             new: Some(&source),
         };
-        let Invalidation { hits, trees } = invalidated(
+        let Invalidation {
+            hits,
+            reasons,
+            trees,
+        } = invalidated(
             alloc,
             &self.inputs,
             &self.tables,
@@ -205,6 +210,7 @@ impl Session {
             edit,
         )?;
         self.inputs.set_file(file, source, trees)?;
+        explain_each(&mut self.kept, reasons);
         forget(
             &self.tables,
             &mut self.kept,
@@ -224,7 +230,11 @@ impl Session {
             path: file,
             new: None,
         };
-        let Invalidation { hits, trees } = invalidated(
+        let Invalidation {
+            hits,
+            reasons,
+            trees,
+        } = invalidated(
             alloc,
             &self.inputs,
             &self.tables,
@@ -232,6 +242,7 @@ impl Session {
             edit,
         )?;
         self.inputs.remove_file(file, trees);
+        explain_each(&mut self.kept, reasons);
         forget(
             &self.tables,
             &mut self.kept,
@@ -256,7 +267,11 @@ impl Session {
             key: &key,
             new: Some(&entry),
         };
-        let Invalidation { hits, trees: _ } = invalidated(
+        let Invalidation {
+            hits,
+            reasons,
+            trees: _,
+        } = invalidated(
             alloc,
             &self.inputs,
             &self.tables,
@@ -264,6 +279,7 @@ impl Session {
             edit,
         )?;
         self.inputs.set_expansion(key, entry)?;
+        explain_each(&mut self.kept, reasons);
         forget(
             &self.tables,
             &mut self.kept,
@@ -280,7 +296,11 @@ impl Session {
         ensures err { OnErr result (self.new ≡ self.old) }
     {
         let edit = SourceEdit::Expansion { key, new: None };
-        let Invalidation { hits, trees: _ } = invalidated(
+        let Invalidation {
+            hits,
+            reasons,
+            trees: _,
+        } = invalidated(
             alloc,
             &self.inputs,
             &self.tables,
@@ -288,6 +308,7 @@ impl Session {
             edit,
         )?;
         self.inputs.remove_expansion(key);
+        explain_each(&mut self.kept, reasons);
         forget(
             &self.tables,
             &mut self.kept,

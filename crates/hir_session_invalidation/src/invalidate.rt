@@ -15,7 +15,8 @@ ghost use Rattle.hir_session_state.specs.HirCollectorRules.Keys.{input_of, look,
 ghost use Rattle.hir_session_state.specs.Askers.{HoldsExactly};
 ghost use Rattle.hir_session_state.specs.EditedSources.{seen_at, text_in, AreHit, AreJudged, IsJudged};
 ghost use Rattle.hir_session_state.specs.Inputs.{workspace_after, workspace_by};
-ghost use Rattle.hir_session_invalidation.specs.Invalidated.{AreChanges, IsChange, HasTreesOf};
+ghost use Rattle.hir_session_invalidation.specs.Invalidated.{AreChanges, IsAlteredFor, IsChange, IsNoted, HasTreesOf};
+ghost use Rattle.hir_session_state.specs.HirIds.declared.ids.MapId.{MapId};
 ghost use Rattle.hir_session_state.specs.Kept.{Resolutions};
 ghost use Rattle.hir_session_state.specs.Marks.{IsAltered};
 ghost use Rattle.hir_session_sources.specs.EditValues.{edit_value};
@@ -32,6 +33,7 @@ use hir_session_sources::source_edit::SourceEdit;
 use hir_session_sources::source_trees::CrateTrees;
 use hir_session_state::askers::{Askers, KeyAskers};
 use hir_session_state::hir_collector_rules::source_database::Key;
+use hir_session_state::reasons::Altered;
 use hir_session_state::source_number::{key_tree, number_at};
 use hir_tables::Tables;
 use std::alloc::{AllocError, Global};
@@ -43,9 +45,14 @@ use std::rc::Rc;
 pub struct Invalidation {
     /// The places whose runs asked for something that becomes another.
     pub hits: Vec<MapId>,
+    /// The same places, each with the keys for which its run asked and that the edit alters.
+    pub reasons: AlteredByPlace,
     /// What the source then has under the crates of those that asked for it.
     pub trees: CrateTrees,
 }
+
+/// By place, the keys for which its run asked and that an edit alters.
+pub type AlteredByPlace = BTreeMap<MapId, Altered>;
 
 /// What the edited source has under crates, before and after the edit.
 #[derive(Drop)]
@@ -175,24 +182,65 @@ fn hit(hits: &mut Vec<MapId>, ids: &BTreeSet<MapId>) -> Result<(), AllocError>
     Ok(())
 }
 
-/// Adds the places that asked for a key to those that are hit, if the key is altered.
+/// Adds the places that asked for a key to those that are hit, and the key to those that are altered, if it is.
 fn judge(
     alloc: Global,
     source: &EditedSource<'_>,
     key: Key,
     ids: &BTreeSet<MapId>,
     hits: &mut Vec<MapId>,
+    altered: &mut Vec<Key>,
     changes: &mut Changes,
 ) -> Result<(), AllocError>
     requires changes { AreChanges source.now.inputs.now (edit_value source.now.edit) changes.old }
     ensures judged { OnOk result (IsJudged source.now.tables.now (workspace_by source.now.inputs.now)
         (workspace_after source.now.inputs.now (edit_value source.now.edit)) key ids.now.keys hits.old.items hits.new.items) }
+    ensures noted { OnOk result (IsNoted source.now.tables.now (workspace_by source.now.inputs.now)
+        (workspace_after source.now.inputs.now (edit_value source.now.edit)) key altered.old.items altered.new.items) }
     ensures changes { OnOk result (AreChanges source.now.inputs.now (edit_value source.now.edit) changes.new) }
 {
     if is_altered(alloc, source, changes, key)? {
         hit(hits, ids)?;
+        altered.push(key)?;
     }
     Ok(())
+}
+
+/// Adds an altered key, by its position among all of them, to those of the places that asked for it.
+fn add_reasons(
+    reasons: &mut AlteredByPlace,
+    altered: &Rc<Vec<Key>>,
+    position: usize,
+    ids: &BTreeSet<MapId>,
+) -> Result<(), AllocError> {
+    for id in ids {
+        if let Some(known) = reasons.get_mut(id) {
+            known.add(position);
+        } else {
+            let mut first = Altered::none(altered.clone()?);
+            first.add(position);
+            reasons.insert(*id, first)?;
+        }
+    }
+    Ok(())
+}
+
+/// By place, which of some altered keys its run asked for.
+fn reasons_among(
+    alloc: Global,
+    askers: &KeyAskers,
+    altered: Vec<Key>,
+) -> Result<AlteredByPlace, AllocError>
+    ensures each { IfOk result (λ reasons. (id : MapId) → IsAlteredFor askers.now altered.items id reasons) }
+{
+    let mut reasons = BTreeMap::new(alloc);
+    let altered = Rc::new(alloc, altered)?;
+    for position in 0..altered.len() {
+        if let Some(ids) = askers.get(&altered[position]) {
+            add_reasons(&mut reasons, &altered, position, ids)?;
+        }
+    }
+    Ok(reasons)
 }
 
 /// What an edit leads to that nothing is known to ask for.
@@ -202,6 +250,7 @@ fn nothing_hit(alloc: Global) -> Invalidation
 {
     Invalidation {
         hits: Vec::new(alloc),
+        reasons: BTreeMap::new(alloc),
         trees: BTreeMap::new(alloc),
     }
 }
@@ -217,15 +266,26 @@ fn invalidated_among(
     ensures trees { IfOk result (λ found. HasTreesOf source.now.inputs.now (edit_value source.now.edit) found.trees) }
 {
     let mut hits = Vec::new(alloc);
+    let mut altered = Vec::new(alloc);
     let mut changes = Changes {
         before: BTreeMap::new(alloc),
         after: BTreeMap::new(alloc),
     };
     for (key, ids) in askers {
-        judge(alloc, source, *key, ids, &mut hits, &mut changes)?;
+        judge(
+            alloc,
+            source,
+            *key,
+            ids,
+            &mut hits,
+            &mut altered,
+            &mut changes,
+        )?;
     }
+    let reasons = reasons_among(alloc, askers, altered)?;
     Ok(Invalidation {
         hits,
+        reasons,
         trees: changes.after,
     })
 }

@@ -1,6 +1,6 @@
 //! What answers lines: a session, or none before the first that is made.
 ghost use Rattle.std.specs.Prelude.{◌≡◌, map, false, None, Some, Option};
-ghost use Rattle.hir_session_core.specs.HirMessages.CommandValue.{command_view, crate_input_view, crates as makes, edit as edits, refresh as refreshes, resolve as resolves, tree as asks_for_tree, diagnostics as asks_for_diagnostics, dump as asks_for_dump, trait_items as asks_for_trait, impl_items as asks_for_impl, names as asks_for_names, path_to as asks_for_path, crate_modules as asks_for_modules, file_modules as asks_for_file_modules};
+ghost use Rattle.hir_session_core.specs.HirMessages.CommandValue.{command_view, crate_input_view, crates as makes, edit as edits, refresh as refreshes, resolve as resolves, tree as asks_for_tree, diagnostics as asks_for_diagnostics, dump as asks_for_dump, trait_items as asks_for_trait, impl_items as asks_for_impl, names as asks_for_names, path_to as asks_for_path, reason as asks_why, crate_modules as asks_for_modules, file_modules as asks_for_file_modules};
 ghost use Rattle.hir_session_core.specs.HirMessages.Edits.{edit_view};
 ghost use Rattle.hir_wire.specs.Replies.{is_fixed};
 ghost use Rattle.hir_session_core.specs.HirMessages.declared.reply.Reply.TheVariants as reply;
@@ -149,18 +149,28 @@ fn named(alloc: Global, session: &Session, at: &Place) -> Reply
 /// A shortest path that names a definition.
 fn path_found(
     alloc: Global,
-    session: &Session,
+    session: &mut Session,
     at: &Place,
     def: &Definition,
     namespace: Namespace,
     prefix: PathPrefix,
     most: u32,
 ) -> Reply
-    ensures step { AnswersCommand (Some session.now) (asks_for_path at.now def.now namespace prefix most) result (Some session.now) }
+    ensures step { AnswersCommand (Some session.old) (asks_for_path at.now def.now namespace prefix most) result (Some session.new) }
 {
     match session.path_to(alloc, at, def, namespace, prefix, most) {
         Ok(Some(path)) => Reply::Path(Some(path)),
         Ok(None) => Reply::Path(None),
+        Err(error) => reply_to_query(error),
+    }
+}
+
+/// Why a place is stale, or what its resolution took.
+fn reasoned(alloc: Global, session: &Session, at: &Place) -> Reply
+    ensures step { AnswersCommand (Some session.now) (asks_why at.now) result (Some session.now) }
+{
+    match session.why(alloc, at) {
+        Ok(why) => Reply::Why(why),
         Err(error) => reply_to_query(error),
     }
 }
@@ -214,6 +224,7 @@ fn called<C: CollectDefs>(alloc: Global, session: &mut Session, command: Command
             prefix,
             most,
         } => path_found(alloc, session, &at, &def, namespace, prefix, most),
+        Command::Why { at } => reasoned(alloc, session, &at),
         Command::CrateModules { krate } => modules_listed(alloc, session, krate),
         Command::FileModules { file } => file_modules_listed(alloc, session, &file),
         Command::Status { at } => Reply::Status(session.status(&at)),

@@ -4,7 +4,7 @@
 pub mod beginning;
 pub mod blocks;
 mod by_crate;
-mod copied_key;
+pub mod copied_key;
 pub mod crate_info;
 pub mod crates;
 mod entries;

@@ -14,7 +14,9 @@ use Rattle.hir_collector_rules.specs.HirDefMapRules.Overlay.{Maps, Placed}
 use Rattle.hir_collector_rules.specs.Derivation.{CollectedValue}
 use Rattle.hir_collector_rules.specs.declared.source_database.Key.{Key}
 use Rattle.hir_session_state.specs.declared.kept.KeptResolution.{KeptResolution}
+use Rattle.hir_session_state.specs.declared.reasons.Reason.{Reason}
 use Rattle.hir_session_state.specs.declared.runs.KeptRun.{KeptRun}
+use Rattle.hir_session_state.specs.Reasons.{ReasonValue, reasons_of}
 
 -- what is kept of a place that was resolved: what its run came to, and the modules that hold its block, the innermost first; none holds a crate
 pub record Resolution : Type 0 where
@@ -22,24 +24,40 @@ pub record Resolution : Type 0 where
   pub local : Local
   pub leftover : List ImportOrExternCrate
   pub round_limit_met : Bool
+  -- how many steps its run took
+  pub steps : ℕ
   pub asked : List Key
   pub holders : List ModuleId
 
 -- what a run came to, beside these holders
 abbrev pub held : CollectedValue → List ModuleId → Resolution
-held c holders = record { map = c.map; local = c.local; leftover = c.leftover; round_limit_met = c.round_limit_met; asked = c.asked; holders = holders }
+held c holders = record {
+  map = c.map;
+  local = c.local;
+  leftover = c.leftover;
+  round_limit_met = c.round_limit_met;
+  steps = c.steps;
+  asked = c.asked;
+  holders = holders;
+}
 
 -- what its run came to
 abbrev pub collected_of : Resolution → CollectedValue
-collected_of r = record { map = r.map; local = r.local; leftover = r.leftover; round_limit_met = r.round_limit_met; asked = r.asked }
+collected_of r =
+    record { map = r.map; local = r.local; leftover = r.leftover; round_limit_met = r.round_limit_met; steps = r.steps; asked = r.asked }
 
--- what is kept of each place that was resolved, by the id of its map
-abbrev pub Resolutions : Type 0
-Resolutions = List (MapId × Resolution)
+-- what is kept of each place that was resolved, by the id of its map, and what is known of each that is stale since
+pub record Resolutions : Type 0 where
+  pub resolved : List (MapId × Resolution)
+  pub reasons : List (MapId × ReasonValue)
 
 -- what is kept of a place
 abbrev pub kept_in : Resolutions → MapId → Option Resolution
-kept_in kept id = lookup (is_at (map_order.ghosts.cmp id)) kept
+kept_in kept id = lookup (is_at (map_order.ghosts.cmp id)) kept.resolved
+
+-- what is known of a place that was resolved, for when it is stale
+abbrev pub reason_in : Resolutions → MapId → Option ReasonValue
+reason_in kept id = lookup (is_at (map_order.ghosts.cmp id)) kept.reasons
 
 -- a map that is kept, in its place
 abbrev pub placed_by : Resolution → Placed
@@ -79,6 +97,7 @@ resolution_of found = record {
   local = found.local.now;
   leftover = found.leftover.now;
   round_limit_met = found.round_limit_met;
+  steps = found.steps;
   asked = keys_of (option_map (λ a. a.now) found.asked);
   holders = found.holders.now;
 }
@@ -91,6 +110,10 @@ abbrev pub was_limited : Option KeptRun → Bool
 was_limited None = false
 was_limited (Some run) = run.round_limit_met
 
+abbrev pub steps_of : Option KeptRun → ℕ
+steps_of None = 0
+steps_of (Some run) = run.steps
+
 abbrev pub asked_of : Option KeptRun → List Key
 asked_of None = []
 asked_of (Some run) = run.asked
@@ -99,7 +122,15 @@ asked_of (Some run) = run.asked
 abbrev pub resolution_from : Option Placed → Option KeptRun → Option Resolution
 resolution_from None run = None
 resolution_from (Some p) run =
-    Some (record { map = p.map; local = p.local; leftover = leftover_of run; round_limit_met = was_limited run; asked = asked_of run; holders = p.holders })
+    Some (record {
+      map = p.map;
+      local = p.local;
+      leftover = leftover_of run;
+      round_limit_met = was_limited run;
+      steps = steps_of run;
+      asked = asked_of run;
+      holders = p.holders;
+    })
 
 abbrev pub resolution_at : Finished → Option KeptRun → Resolution
 resolution_at finished run = record {
@@ -107,6 +138,7 @@ resolution_at finished run = record {
   local = finished.local;
   leftover = leftover_of run;
   round_limit_met = was_limited run;
+  steps = steps_of run;
   asked = asked_of run;
   holders = finished.holders.items;
 }
@@ -115,5 +147,9 @@ abbrev pub entry_with : BTreeMap MapId KeptRun → (MapId × Finished) → MapId
 entry_with runs entry = (entry.0, resolution_at entry.1 (get map_order.ghosts.cmp runs entry.0))
 
 -- those of which the maps stand in a world
-unfoldable pub resolutions_in : BTreeMap MapId Finished → BTreeMap MapId KeptRun → Resolutions
+unfoldable pub resolutions_in : BTreeMap MapId Finished → BTreeMap MapId KeptRun → List (MapId × Resolution)
 resolutions_in maps runs = map (entry_with runs) maps.entries
+
+-- and with what is known of each place that is stale
+abbrev pub kept_by : BTreeMap MapId Finished → BTreeMap MapId KeptRun → BTreeMap MapId Reason → Resolutions
+kept_by maps runs reasons = record { resolved = resolutions_in maps runs; reasons = reasons_of reasons.entries }

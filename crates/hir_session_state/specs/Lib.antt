@@ -8,6 +8,7 @@ pub mod KeySources
 pub mod SourceNumbers
 pub mod Inputs
 pub mod Askers
+pub mod Reasons
 pub mod Kept
 pub mod KeptCodes
 pub mod Standing

@@ -8,5 +8,6 @@ pub use Rattle.hir_session_state.specs.declared.error.QueryError.{QueryError}
 pub use Rattle.hir_session_state.specs.declared.error.RefreshError.{RefreshError}
 pub use Rattle.hir_session_state.specs.declared.error.TraitItemsError.{TraitItemsError}
 pub use Rattle.hir_session_state.specs.declared.error.TreeTextError.{TreeTextError}
+pub use Rattle.hir_session_state.specs.declared.reasons.Reason.{Reason}
 pub use Rattle.hir_session_state.specs.declared.runs.KeptRun.{KeptRun}
 pub use Rattle.hir_session_state.specs.declared.source_number.SourceNumber.{SourceNumber}

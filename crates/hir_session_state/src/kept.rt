@@ -14,9 +14,11 @@ ghost use Rattle.hir_collector_rules.specs.HirNameres.World.{finished_in, placed
 ghost use Rattle.hir_collector_rules.specs.declared.source_database.Key.{Key};
 ghost use Rattle.hir_session_state.specs.declared.source_number.SourceNumber.{SourceNumber as Number};
 ghost use Rattle.hir_session_state.specs.Askers.{is_asker, AreDropped, Enters, HoldsExactly, IsSame, Leaves, Lengthens, ListsFallen};
-ghost use Rattle.hir_session_state.specs.Kept.{finished_by, held, kept_in, names_in, leftover_of, was_limited, asked_of, keys_of, resolution_from, resolution_of, AreForgotten};
+ghost use Rattle.hir_session_state.specs.Kept.{finished_by, held, kept_in, names_in, leftover_of, reason_in, was_limited, steps_of, asked_of, keys_of, resolution_from, resolution_of, AreForgotten};
+ghost use Rattle.hir_session_state.specs.Reasons.{behind, reason_of};
 
 use crate::askers::Askers;
+use crate::reasons::{Reason, Reasons};
 use crate::runs::{KeptRun, Runs};
 use hir_base::ids::{MapId, ModuleId};
 use hir_collector_rules::collected::{Asked, Collected};
@@ -26,6 +28,7 @@ use hir_def_map::nameres::local_def_map::LocalDefMap;
 use hir_def_map::world::World;
 use hir_def_map::world::finished::Finished;
 use hir_def_map::world::insert::InsertError;
+use hir_path_search::{Indexes, MapIndex};
 use hir_tables::Tables;
 use std::alloc::{AllocError, Global};
 use std::marker::Model;
@@ -37,6 +40,8 @@ pub struct KeptResolution<'a> {
     pub local: &'a LocalDefMap,
     pub leftover: &'a [ImportOrExternCrate],
     pub round_limit_met: bool,
+    /// How many steps its run took.
+    pub steps: u32,
     pub asked: Option<&'a Asked>,
     /// The module that holds the block, the one that holds that one's block, and so on; none holds a crate.
     pub holders: &'a [ModuleId],
@@ -49,6 +54,7 @@ pub struct Kept {
     runs: Runs,
     /// The worklist of a removal: the places whose maps fell. Between two calls it is empty, with room for all.
     fallen: Vec<MapId>,
+    reasons: Reasons,
 }
 
 impl Model for Kept {
@@ -59,9 +65,9 @@ impl Model for Kept {
 
     ghost coded = { coded_kept };
 
-    ghost use Rattle.hir_session_state.specs.Kept.{resolutions_in};
+    ghost use Rattle.hir_session_state.specs.Kept.{kept_by};
 
-    ghost view = { λ k. resolutions_in k.world.maps k.runs.by_place };
+    ghost view = { λ k. kept_by k.world.maps k.runs.by_place k.reasons.by_place };
 
     ghost use Rattle.hir_def_map.specs.Inner.Dependents.{HasRoom};
 
@@ -83,6 +89,15 @@ fn was_limited_in(run: Option<&KeptRun>) -> bool
     match run {
         Some(run) => run.round_limit_met,
         None => false,
+    }
+}
+
+fn steps_in(run: Option<&KeptRun>) -> u32
+    ensures value { result ≡ steps_of (option_map (λ r. r.now) run.entry) }
+{
+    match run {
+        Some(run) => run.steps,
+        None => 0,
     }
 }
 
@@ -116,6 +131,7 @@ fn joined<'a>(
         local: &finished.local,
         leftover: leftover_in(run),
         round_limit_met: was_limited_in(run),
+        steps: steps_in(run),
         asked: asked_in(run),
         holders: finished.holders.as_slice(),
     })
@@ -230,11 +246,13 @@ impl Kept {
     /// Nothing kept of any place.
     pub fn new(alloc: Global) -> Kept
         ensures none { (id : MapId) → kept_in result id ≡ None }
+        ensures unresolved { (id : MapId) → reason_in result id ≡ None }
     {
         Kept {
             world: World::new(alloc),
             runs: Runs::new(alloc),
             fallen: Vec::new(alloc),
+            reasons: Reasons::new(alloc),
         }
     }
 
@@ -266,19 +284,27 @@ impl Kept {
         ensures here { OnOk result (kept_in self.new found.map.id
             ≡ Some (held (collected_view found) (holders_under (finished_by self.old) found.map.id found.map.holder))) }
         ensures others { OnOk result ((id : MapId) → id ≢ found.map.id → kept_in self.new id ≡ kept_in self.old id) }
+        ensures resolved { OnOk result (reason_in self.new found.map.id ≡ Some behind) }
+        ensures explained { OnOk result ((id : MapId) → id ≢ found.map.id → reason_in self.new id ≡ reason_in self.old id) }
         ensures exact { HoldsExactly tables.now self.new askers.new }
         ensures err { OnErr result (self.new ≡ self.old) }
     {
         make_room(&mut self.fallen, &self.world)?;
         let id = found.map.id();
+        self.reasons.enter(id)?;
         let run = KeptRun {
             leftover: found.leftover,
             round_limit_met: found.round_limit_met,
+            steps: found.steps,
             asked: found.asked,
+            index: None,
         };
         put_run(&mut self.runs, askers, tables, id, run)?;
         match join(&mut self.world, found.map, found.local) {
-            Ok(()) => Ok(()),
+            Ok(()) => {
+                self.reasons.settle(id);
+                Ok(())
+            }
             Err(refused) => {
                 drop_run(&mut self.runs, askers, tables, id);
                 Err(refused)
@@ -328,6 +354,37 @@ impl Kept {
         }
     }
 
+    /// Makes the index of a place's map, where something is kept of the place and it has none.
+    pub fn make_index(&mut self, alloc: Global, id: MapId) -> Result<(), AllocError>
+        ensures same { self.new ≡ self.old }
+    {
+        if self.index(id).is_some() {
+            return Ok(());
+        }
+        let Some(finished) = self.world.maps.get(&id) else {
+            return Ok(());
+        };
+        let index = MapIndex::new(alloc, &finished.map)?;
+        self.runs.put_index(id, index);
+        Ok(())
+    }
+
+    /// What is known of a place's last run, for when the place is stale.
+    pub fn reason(&self, id: MapId) -> Option<&Reason>
+        ensures value { option_and_then (λ reason. reason_of reason.now) result ≡ reason_in self.now id }
+    {
+        self.reasons.get(id)
+    }
+
+    /// Says why a place that was resolved becomes stale.
+    pub fn explain(&mut self, id: MapId, why: Reason)
+        ensures same { (j : MapId) → kept_in self.new j ≡ kept_in self.old j }
+        ensures here { is_some (reason_in self.old id) ≡ true → reason_in self.new id ≡ reason_of why }
+        ensures others { (j : MapId) → j ≢ id → reason_in self.new j ≡ reason_in self.old j }
+    {
+        self.reasons.explain(id, why);
+    }
+
     /// Whether something is kept of a place, where there is one.
     pub fn has(&self, id: Option<MapId>) -> bool
         ensures value { result ≡ is_some (option_and_then (kept_in self.now) id) }
@@ -336,5 +393,11 @@ impl Kept {
             Some(id) => self.get(id).is_some(),
             None => false,
         }
+    }
+}
+
+impl Indexes for Kept {
+    fn index(&self, map: MapId) -> Option<&MapIndex> {
+        self.runs.get(map)?.index.as_ref()
     }
 }

@@ -13,6 +13,7 @@ pub mod front;
 pub mod kept;
 pub mod known_crates;
 pub mod nesting;
+pub mod reasons;
 pub mod runs;
 pub mod source_number;
 pub mod steps;

@@ -7,6 +7,7 @@ ghost use Rattle.hir_collector_rules.specs.HirIds.contracts.ids.MapIdOrd.TheImpl
 use hir_base::ids::MapId;
 use hir_collector_rules::collected::Asked;
 use hir_collector_rules::hir_scope::imports::ImportOrExternCrate;
+use hir_path_search::MapIndex;
 use std::alloc::Global;
 use std::collections::BTreeMap;
 
@@ -15,7 +16,11 @@ use std::collections::BTreeMap;
 pub struct KeptRun {
     pub leftover: Vec<ImportOrExternCrate>,
     pub round_limit_met: bool,
+    /// How many steps it took.
+    pub steps: u32,
     pub asked: Asked,
+    /// Where the map binds what, once a path was looked for in it.
+    pub index: Option<MapIndex>,
 }
 
 /// The last run of each place.
@@ -36,6 +41,13 @@ impl Runs {
         ensures value { option_map (λ r. r.now) result ≡ get map_order.ghosts.cmp self.now.by_place id }
     {
         self.by_place.get(&id)
+    }
+
+    /// Keeps the index of a place's map with its run, where there is one.
+    pub fn put_index(&mut self, id: MapId, index: MapIndex) {
+        if let Some(run) = self.by_place.get_mut(&id) {
+            run.index = Some(index);
+        }
     }
 
     /// Keeps the run of a place in place of its last, or hands it back where memory is refused.

@@ -17,7 +17,7 @@ use Rattle.hir_wire.specs.declared.read.line.Verb.TheVariants as verb
 use Rattle.hir_wire.specs.declared.read_error.ReadError.TheVariants.{Json, Command}
 use Rattle.hir_wire.specs.Attributes.{attributes_of}
 use Rattle.hir_messages.specs.CommandValue.{CommandValue, CrateInputValue, crate_modules, crates, data_of_input, diagnostics, dump, edit, file_modules}
-use Rattle.hir_messages.specs.CommandValue.{impl_items, names, path_to, refresh, resolve, status, trait_items, tree}
+use Rattle.hir_messages.specs.CommandValue.{impl_items, names, path_to, reason, refresh, resolve, status, trait_items, tree}
 use Rattle.hir_wire.specs.Conditions.{option_of}
 use Rattle.hir_messages.specs.Edits.{set_file, remove_file, set_block, remove_block, set_expansion, remove_expansion, set_crate}
 use Rattle.hir_wire.specs.Definitions.{definition_of}
@@ -121,7 +121,8 @@ verb_of_word word =
     (if bytes_eq word (codes "names") then Some verb.Names else
     (if bytes_eq word (codes "modules") then Some verb.Modules else
     (if bytes_eq word (codes "path to") then Some verb.PathTo else
-    (if bytes_eq word (codes "tree") then Some verb.Tree else None))))))))))))))))))
+    (if bytes_eq word (codes "why") then Some verb.Why else
+    (if bytes_eq word (codes "tree") then Some verb.Tree else None)))))))))))))))))))
 
 -- the file and the source of an edit
 unfoldable pub set_file_in : Members → Reading CommandValue
@@ -206,6 +207,7 @@ fields_of verb.Diagnostics ms = made diagnostics (required crate_of (codes "crat
 fields_of verb.Names ms = made names (required place_of (codes "at") ms)
 fields_of verb.Modules ms = modules_in ms
 fields_of verb.PathTo ms = path_to_in ms
+fields_of verb.Why ms = made reason (required place_of (codes "at") ms)
 fields_of verb.Tree ms = tree_in ms
 
 -- a command, once its word is read

@@ -1,5 +1,5 @@
 -- Which text does a reply have?
-use Rattle.std.specs.Prelude.{ℕ, List, Bool, true, false, Option, Some, None, map, codes, string_bytes}
+use Rattle.std.specs.Prelude.{ℕ, List, [], ◌∷◌, Bool, true, false, Option, Some, None, map, codes, string_bytes}
 use Rattle.serde_json.specs.Data.{Data, null, boolean, number, unsigned, string, array, object, no_items, item, Members, no_members, member}
 use Rattle.serde_json.specs.View.{items_of}
 use Rattle.serde_json.specs.Written.{compact_text}
@@ -11,12 +11,18 @@ use Rattle.hir_base.specs.Place.{PlaceValue}
 use Rattle.hir_base.specs.declared.place.PlaceElement.{PlaceElement}
 use Rattle.hir_ids.specs.declared.ast_id.SyntaxId.{SyntaxId}
 use Rattle.hir_base.specs.declared.place.PlaceElement.TheVariants as element
-use Rattle.hir_wire.specs.Types.{Answer, AnswerItem, AnswerVisibility, AssocItem, BoundName, CalledItem, Definition, Diagnostic, DiagnosticKind, ImportOrigin}
-use Rattle.hir_wire.specs.Types.{ImportSource, ItemSource, Items, Reply, SourceCall, SourceCallKind, SourceItem, SourceRoot}
+use Rattle.hir_base.specs.declared.macro_kind.CallStyle.{CallStyle}
+use Rattle.hir_base.specs.declared.macro_kind.CallStyle.TheVariants as style
+use Rattle.hir_base.specs.declared.macro_kind.MacroText.{MacroText}
+use Rattle.hir_tables.specs.SourcePlaces.{ExpansionValue, expansion_value}
+use Rattle.hir_wire.specs.Types.{AlteredKey, Answer, AnswerItem, AnswerVisibility, AssocItem, BoundName, CalledItem, Definition, Diagnostic, DiagnosticKind, ImportOrigin}
+use Rattle.hir_wire.specs.Types.{ImportSource, ItemSource, Items, Reply, SourceCall, SourceCallKind, SourceItem, SourceRoot, Why}
+use Rattle.hir_wire.specs.Types.altered
 use Rattle.hir_wire.specs.Types.call
 use Rattle.hir_wire.specs.Types.definition
 use Rattle.hir_wire.specs.Types.diagnostic
 use Rattle.hir_wire.specs.Types.origin
+use Rattle.hir_wire.specs.Types.reason
 use Rattle.hir_wire.specs.Types.reply
 use Rattle.hir_wire.specs.Types.root
 use Rattle.hir_wire.specs.Types.visibility
@@ -184,6 +190,47 @@ bound_name_data bound =
 abbrev pub path_data : Path → Data
 path_data path = string (path_shown None path)
 
+-- ---- reasons
+
+-- how a macro is called: an attribute by its number
+abbrev pub style_data : CallStyle → Data
+style_data style.Bang = string (codes "bang")
+style_data style.Derive = string (codes "derive")
+style_data (style.Attribute attr) = array (item (string (codes "attr")) (item (number_data attr.0) no_items))
+
+-- a macro of a crate
+abbrev pub macro_text_data : MacroText → Data
+macro_text_data m = object (member (codes "crate") (number_data m.krate.0) (member (codes "text") (string m.text) no_members))
+
+-- the macros that the paths of an entry reach, where there are some
+abbrev pub reached_members : List MacroText → Members → Members
+reached_members [] more = more
+reached_members (m ∷ ms) more = member (codes "reached") (array (items_of (map macro_text_data (m ∷ ms)))) more
+
+-- the key of an expansion, as it is handed in
+abbrev pub key_data : ExpansionValue → Data
+key_data key =
+    object (member (codes "call") (style_data key.call) (member (codes "caller") (number_data key.caller.0)
+    (member (codes "crate") (number_data key.called.krate.0) (member (codes "input") (string key.input)
+    (reached_members key.reached (member (codes "text") (string key.called.text) no_members))))))
+
+-- what an edit altered
+abbrev pub altered_data : AlteredKey → Data
+altered_data (altered.Source source) = object (member (codes "source") (source_data source) no_members)
+altered_data (altered.Enum def) = object (member (codes "enum") (definition_data def) no_members)
+altered_data (altered.Macro def) = object (member (codes "macro") (definition_data def) no_members)
+altered_data (altered.Call named) = object (member (codes "call") (source_item_data named) no_members)
+altered_data (altered.Expansion key) = object (member (codes "expansion") (key_data (expansion_value key)) no_members)
+altered_data (altered.Crate krate) = object (member (codes "crate") (number_data krate.0) no_members)
+
+-- why a place is stale, or what its resolution took
+abbrev pub why_data : Why → Data
+why_data reason.NeverResolved = string (codes "never resolved")
+why_data (reason.Edited keys count) =
+    object (member (codes "edited") (array (items_of (map altered_data keys))) (member (codes "number") (number_data count) no_members))
+why_data (reason.Behind places) = object (member (codes "behind") (array (items_of (map place_data places))) no_members)
+why_data (reason.Resolved asked steps) = object (member (codes "keys") (number_data asked) (member (codes "steps") (number_data steps) no_members))
+
 -- ---- replies
 
 -- what went well
@@ -204,6 +251,7 @@ reply_data (reply.Diagnostics diagnostics) = success (array (items_of (map diagn
 reply_data (reply.Items held) = success (items_data held)
 reply_data (reply.Names names) = success (array (items_of (map bound_name_data names)))
 reply_data (reply.Path path) = success (or_null path_data path)
+reply_data (reply.Why told) = success (why_data told)
 reply_data (reply.Text text) = success (string (string_bytes text))
 reply_data reply.Json = refusal (codes "json") no_members
 reply_data reply.Command = refusal (codes "command") no_members
@@ -234,6 +282,7 @@ is_fixed (reply.Diagnostics diagnostics) = false
 is_fixed (reply.Items held) = false
 is_fixed (reply.Names names) = false
 is_fixed (reply.Path path) = false
+is_fixed (reply.Why told) = false
 is_fixed (reply.Text text) = false
 is_fixed reply.Json = true
 is_fixed reply.Command = true

@@ -45,3 +45,7 @@ pub use Rattle.hir_messages.specs.declared.reply.Reply.{Reply}
 pub use Rattle.hir_messages.specs.declared.reply.Reply.TheVariants as reply
 pub use Rattle.hir_messages.specs.declared.reply.Status.{Status}
 pub use Rattle.hir_messages.specs.declared.reply.Status.TheVariants as status
+pub use Rattle.hir_messages.specs.declared.why.AlteredKey.{AlteredKey}
+pub use Rattle.hir_messages.specs.declared.why.AlteredKey.TheVariants as altered
+pub use Rattle.hir_messages.specs.declared.why.Why.{Why}
+pub use Rattle.hir_messages.specs.declared.why.Why.TheVariants as reason

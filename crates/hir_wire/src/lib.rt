@@ -1,7 +1,7 @@
 //! Commands and replies as lines of JSON.
 #![tactic(auto)]
 
-pub use hir_messages::{answer, command, diagnostic, edit, items, names, reply};
+pub use hir_messages::{answer, command, diagnostic, edit, items, names, reply, why};
 
 pub mod json;
 pub mod read;
@@ -23,4 +23,5 @@ pub use names::{BoundName, BoundNames};
 pub use read::line::read_command;
 pub use read_error::ReadError;
 pub use reply::{Places, Reply, Status};
+pub use why::{AlteredKey, AlteredKeys, Why};
 pub use write::reply::{fixed_text, reply_text};

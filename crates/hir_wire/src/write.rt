@@ -6,3 +6,4 @@ pub mod diagnostic;
 pub mod items;
 pub mod names;
 pub mod reply;
+pub mod why;

@@ -107,7 +107,7 @@ pub fn module_at(
 }
 
 /// A struct, a union or an enum.
-fn adt_at(alloc: Global, tables: &Tables, adt: AdtId) -> Result<Option<Definition>, AllocError>
+pub fn adt_at(alloc: Global, tables: &Tables, adt: AdtId) -> Result<Option<Definition>, AllocError>
     ensures value { IfOk result (λ o. o ≡ adt_definition tables.now adt) }
 {
     match adt {

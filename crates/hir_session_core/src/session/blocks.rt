@@ -9,7 +9,7 @@ ghost use Rattle.hir_session_state.specs.SourceEdits.{edited, of_block};
 ghost use Rattle.hir_session_state.specs.Standing.{block_map, block_number};
 ghost use Rattle.hir_session_core.specs.BlockVerdicts.{told_with_steps};
 
-use super::pending::{PendingBlock, forget_listing, settle};
+use super::pending::{PendingBlock, explain_each, forget_listing, settle};
 use super::{Session, check_source};
 use hir_base::ids::MapId;
 use hir_base::place::BlockPlace;
@@ -81,7 +81,11 @@ impl Session {
             place: &block,
             new: Some(&source),
         };
-        let Invalidation { hits, trees: _ } = invalidated(
+        let Invalidation {
+            hits,
+            reasons,
+            trees: _,
+        } = invalidated(
             alloc,
             &self.inputs,
             &self.tables,
@@ -91,6 +95,7 @@ impl Session {
         let one = PendingBlock::new(alloc, &block)?;
         let own = self.block_id(&block);
         self.inputs.set_block(block, source)?;
+        explain_each(&mut self.kept, reasons);
         let mut known = self.pending.take();
         let fell = forget_listing(
             alloc,
@@ -115,7 +120,11 @@ impl Session {
             place: block,
             new: None,
         };
-        let Invalidation { hits, trees: _ } = invalidated(
+        let Invalidation {
+            hits,
+            reasons,
+            trees: _,
+        } = invalidated(
             alloc,
             &self.inputs,
             &self.tables,
@@ -124,6 +133,7 @@ impl Session {
         )?;
         let one = PendingBlock::new(alloc, block)?;
         self.inputs.remove_block(block)?;
+        explain_each(&mut self.kept, reasons);
         let mut known = self.pending.take();
         let fell = forget_listing(
             alloc,

@@ -1,11 +1,14 @@
 //! Edits of what crates are handed in with.
-ghost use Rattle.std.specs.Prelude.{◌≡◌, ◌↔◌, ◌<◌, false, IsTrue, IfOk, OnErr, OnOk, length, map, [], ◌∷◌};
+ghost use Rattle.std.specs.Prelude.{◌≡◌, ◌↔◌, ◌<◌, false, true, is_some, Some, IsTrue, IfOk, OnErr, OnOk, length, map, [], ◌∷◌};
 ghost use Rattle.hir_session_state.specs.HirIds.Refusal.{Gives};
 ghost use Rattle.hir_session_state.specs.HirDefMapRules.State.{crate_map};
 ghost use Rattle.hir_session_state.specs.HirItemTree.Attributes.{attributes_view};
 ghost use Rattle.hir_session_state.specs.HirCollectorRules.Workspace.{config_view};
 ghost use Rattle.hir_session_state.specs.Beginning.{IsSameConfig};
 ghost use Rattle.hir_session_state.specs.Changes.{SetsCrate};
+ghost use Rattle.hir_session_state.specs.HirIds.declared.ids.MapId.{MapId};
+ghost use Rattle.hir_session_state.specs.HirCollectorRules.declared.source_database.Key.TheVariants as Key;
+ghost use Rattle.hir_session_state.specs.Kept.{kept_in, reason_in};
 ghost use Rattle.hir_session_state.specs.Crates.{crate_in};
 ghost use Rattle.hir_session_state.specs.Refusals.{has_late, verdict_of_crate, verdict_of_data, IsEditMemory};
 ghost use Rattle.hir_session_core.specs.CrateEdits.{SetsConfig};
@@ -24,6 +27,8 @@ use hir_session_sources::same_config::same_config;
 use hir_session_state::error::EditError;
 use hir_session_state::hir_collector_rules::source_database::Config;
 use hir_session_state::hir_messages::command::{Dependencies, Dependency};
+use hir_session_state::kept::Kept;
+use hir_session_state::reasons::Reason;
 use std::alloc::{AllocError, Global};
 
 /// Whether attributes are within the limits, and each dependency comes before its crate.
@@ -49,6 +54,18 @@ fn map_alone(alloc: Global, krate: Crate) -> Result<Vec<MapId>, AllocError>
     let mut ids = Vec::new(alloc);
     ids.push(MapId::of_crate(krate))?;
     Ok(ids)
+}
+
+/// Says of a crate that is handed in with other data why it becomes stale, where it is current.
+fn explain_crate(kept: &mut Kept, krate: Crate)
+    ensures same { (id : MapId) → kept_in kept.new id ≡ kept_in kept.old id }
+    ensures explained { is_some (kept_in kept.old (crate_map krate)) ≡ true → is_some (reason_in kept.old (crate_map krate)) ≡ true
+        → reason_in kept.new (crate_map krate) ≡ Some (record { number = 1; keys = Key.Config krate ∷ [] }) }
+{
+    let id = MapId::of_crate(krate);
+    if kept.has(Some(id)) {
+        kept.explain(id, Reason::Reconfigured(krate));
+    }
 }
 
 impl Session {
@@ -78,6 +95,7 @@ impl Session {
     {
         let hits = map_alone(alloc, krate)?;
         self.inputs.set_crate(alloc, krate, config)?;
+        explain_crate(&mut self.kept, krate);
         forget(
             &self.tables,
             &mut self.kept,

@@ -8,13 +8,16 @@ ghost use Rattle.hir_session_state.specs.Blocks.{place_of_block};
 ghost use Rattle.hir_session_state.specs.Kept.{kept_in, AreForgotten};
 ghost use Rattle.hir_session_state.specs.SessionState.{block_kept, is_marked, IsSound};
 ghost use Rattle.hir_session_core.specs.Progress.{pending_of, with_pending, AreFallen, AreKnownBut, ArePending, ArePendingBut, HasAllPending, IsPendingAt, IsSettled, IsSifted, IsSiftedAt};
+ghost use Rattle.hir_session_core.specs.Explained.{AreExplained};
 
 use super::Session;
 use hir_base::ids::MapId;
 use hir_base::place::{BlockPlace, Place};
 use hir_session_sources::blocks::root_of_block;
 use hir_session_state::askers::Askers;
+use hir_session_invalidation::invalidate::AlteredByPlace;
 use hir_session_state::kept::Kept;
+use hir_session_state::reasons::Reason;
 use hir_session_state::steps::nesting;
 use hir_tables::Tables;
 use std::alloc::{AllocError, Global};
@@ -65,6 +68,17 @@ pub fn settle(pending: &mut Option<BTreeSet<PendingBlock>>, block: PendingBlock,
 {
     if let Some(known) = pending.take() {
         *pending = settled(known, block, waits);
+    }
+}
+
+/// Says of each place that an edit hits why it becomes stale.
+pub fn explain_each(kept: &mut Kept, reasons: AlteredByPlace)
+    ensures same { (id : MapId) → kept_in kept.new id ≡ kept_in kept.old id }
+    ensures explained { AreExplained kept.old reasons kept.new }
+{
+    let mut left = reasons;
+    'next: while let Some((id, altered)) = left.pop_first() {
+        kept.explain(id, Reason::Altered(altered));
     }
 }
 

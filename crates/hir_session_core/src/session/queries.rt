@@ -239,12 +239,44 @@ impl Session {
             &self.tables,
             &maps,
             found.local,
+            &self.kept,
             at,
             definition,
             namespace,
             prefix,
             most,
         )
+    }
+
+    /// The maps that a module of a current map reads, and its own.
+    fn maps_read_at(&self, alloc: Global, at: ModuleId) -> Result<Vec<MapId>, AllocError> {
+        let mut maps = Vec::new(alloc);
+        maps.push(at.map)?;
+        if let Some(transitive) = self.inputs.crates().transitive_dependencies(at.map.krate) {
+            for krate in transitive.iter() {
+                maps.push(MapId::of_crate(krate))?;
+            }
+        }
+        if let Some(found) = self.kept.get(at.map) {
+            for holder in found.holders {
+                maps.push(holder.map)?;
+            }
+        }
+        Ok(maps)
+    }
+
+    /// Makes the indexes of the maps in which a path is looked for from a place, where they aren't there.
+    fn make_indexes(&mut self, alloc: Global, place: &Place) -> Result<(), AllocError>
+        ensures same { self.new ≡ self.old }
+    {
+        let Some(at) = self.standing(place).module() else {
+            return Ok(());
+        };
+        let maps = self.maps_read_at(alloc, at)?;
+        for id in &maps {
+            self.kept.make_index(alloc, *id)?;
+        }
+        Ok(())
     }
 
     /// A path, where it leads to a definition from the module that a place names, begins as it is to, and has no more than so many
@@ -273,7 +305,7 @@ impl Session {
     /// A shortest path that names a definition in a namespace, from the module that a place names, of at most so many segments
     /// (and never more than 64); None where there is none.
     pub fn path_to(
-        &self,
+        &mut self,
         alloc: Global,
         place: &Place,
         definition: &Definition,
@@ -281,11 +313,13 @@ impl Session {
         prefix: PathPrefix,
         most: u32,
     ) -> Result<Option<ModPath>, QueryError>
-        ensures found { IfOk result (λ found. IfSome found (LeadsTo self.now place.now definition.now namespace prefix most)) }
-        ensures refused { IfErr result (λ e. IsQueryMemory e ⊎ AreRefused self.now place.now e) }
+        ensures same { self.new ≡ self.old }
+        ensures found { IfOk result (λ found. IfSome found (LeadsTo self.old place.now definition.now namespace prefix most)) }
+        ensures refused { IfErr result (λ e. IsQueryMemory e ⊎ AreRefused self.old place.now e) }
     {
         match self.status(place) {
             Status::Current => {
+                self.make_indexes(alloc, place)?;
                 match self.path_kept(alloc, place, definition, namespace, prefix, most)? {
                     Some(path) => self.leading(
                         alloc, place, definition, namespace, prefix, most, path,

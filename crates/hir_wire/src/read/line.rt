@@ -40,6 +40,7 @@ pub enum Verb {
     Names,
     Modules,
     PathTo,
+    Why,
     Tree,
 }
 
@@ -68,6 +69,7 @@ impl Word for Verb {
             "names" => Some(Verb::Names),
             "modules" => Some(Verb::Modules),
             "path to" => Some(Verb::PathTo),
+            "why" => Some(Verb::Why),
             "tree" => Some(Verb::Tree),
             _ => None,
         }
@@ -372,6 +374,16 @@ fn read_names(alloc: Global, members: &Map<String, Value>) -> Result<Command, Re
     }
 }
 
+fn read_why(alloc: Global, members: &Map<String, Value>) -> Result<Command, ReadError>
+    ensures value { Reads command_view
+        (fields_of Verb.Why (members_view members.now.entries)) result }
+{
+    match required(alloc, members, "at") {
+        Ok(at) => Ok(Command::Why { at }),
+        Err(error) => Err(error),
+    }
+}
+
 fn read_crate_modules(alloc: Global, members: &Map<String, Value>) -> Result<Command, ReadError>
     ensures value { Reads command_view
         (made crate_modules (required crate_of (codes "crate") (members_view members.now.entries))) result }
@@ -476,6 +488,7 @@ fn read_verb_fields(
         Verb::Names => read_names(alloc, members),
         Verb::Modules => read_modules(alloc, members),
         Verb::PathTo => read_path_to(alloc, members),
+        Verb::Why => read_why(alloc, members),
         Verb::Tree => read_tree(alloc, members),
     }
 }

@@ -11,6 +11,7 @@ use crate::write::definition::{id_value, kind_word, place_value};
 use crate::write::diagnostic::{diagnostics_list, path_value};
 use crate::write::items::items_value;
 use crate::write::names::names_list;
+use crate::write::why::why_value;
 use hir_base::ast_id::{AstKind, SyntaxId};
 use hir_base::ids::Crate;
 use hir_base::limit::Limit;
@@ -100,6 +101,7 @@ fn reply_value(alloc: Global, reply: &Reply) -> Result<Value, AllocError>
         Reply::Items(items) => success(alloc, items_value(alloc, items)?),
         Reply::Names(names) => success(alloc, Value::Array(names_list(alloc, names.as_slice())?)),
         Reply::Path(path) => success(alloc, path_or_null(alloc, path)?),
+        Reply::Why(why) => success(alloc, why_value(alloc, why)?),
         Reply::Text(text) => success(alloc, Value::try_from_str(alloc, text.as_str())?),
         Reply::Json => refusal(alloc, "json"),
         Reply::Command => refusal(alloc, "command"),
@@ -158,7 +160,7 @@ fn path_or_null(alloc: Global, path: &Option<ModPath>) -> Result<Value, AllocErr
     }
 }
 
-fn places_list(alloc: Global, places: &[Place]) -> Result<Vec<Value>, AllocError>
+pub fn places_list(alloc: Global, places: &[Place]) -> Result<Vec<Value>, AllocError>
     ensures value { IfOk result (λ vs. map view vs.items ≡ map place_data places.now) }
 {
     let mut values = Vec::new(alloc);

@@ -1,5 +1,5 @@
 //! What the names of a scope stand for, in order.
-ghost use Rattle.std.specs.Prelude.{◌≡◌, ℕ, List, Option};
+ghost use Rattle.std.specs.Prelude.{◌≡◌, ℕ, List, Option, option_map, slice_get};
 ghost use Rattle.std.specs.Option.{option_copied};
 ghost use Rattle.std.specs.Iterator.{YieldsFirstBy, item_count};
 ghost use Rattle.hir_ids.specs.declared.name.Name.{Name};
@@ -57,6 +57,14 @@ impl ItemScope {
         Entries {
             left: self.names.as_slice(),
         }
+    }
+
+    /// The name at a position among those of the scope, with what it stands for.
+    pub fn entry(&self, position: usize) -> Option<(&Name, PerNs)>
+        ensures value { option_map (λ entry. (entry.0.now, entry.1)) result ≡ slice_get (entries_of self.now) position }
+    {
+        let entry = self.names.as_slice().get(position)?;
+        Some((entry.name(), items_of(entry)))
     }
 
     /// The names of the scope in order, each with what it stands for, and then the traits that are imported without a name.
