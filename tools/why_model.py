@@ -16,7 +16,7 @@ import sys
 
 import random_sessions
 from model.syntax import dump
-from model.workspace import Workspace
+from model.workspace import Workspace, read_place
 
 MOST_TOLD = 16
 
@@ -63,7 +63,7 @@ def main():
             said.append((command, None, False))
             if command["do"].startswith(("set ", "remove ")) or command["do"] == "refresh":
                 for ask in asks_at(workspace, drawn):
-                    said.append((ask, workspace.reply(ask), True))
+                    said.append((ask, workspace.why(read_place(ask["at"])), True))
         lines = random_sessions.lines([command for command, _, _ in said])
         done = subprocess.run([given.program], input=lines.encode(), stdout=subprocess.PIPE, check=True)
         replies = done.stdout.decode().splitlines()

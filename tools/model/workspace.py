@@ -272,7 +272,9 @@ class Workspace:
         if do == "refresh":
             return {"ok": self.refresh()}
         if do == "why":
-            return self.why(read_place(command["at"]))
+            told = self.why(read_place(command["at"]))
+            # the order of keys is none of the model's
+            return None if told is not None and "edited" in told.get("ok", {}) else told
         if do == "status":
             return {"ok": self.status(read_place(command["at"]))[0]}
         if do in ("resolve", "dump", "names", "path to", "trait items", "impl items"):

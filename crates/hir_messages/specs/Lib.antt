@@ -1,3 +1,4 @@
 pub mod Edits
 pub mod CommandValue
 pub mod Types
+pub mod Reasons

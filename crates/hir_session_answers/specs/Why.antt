@@ -1,5 +1,5 @@
 -- Why is a place stale, and what did the resolution take where it is current?
-use Rattle.std.specs.Prelude.{ℕ, Bool, true, false, List, [], ◌∷◌, ◌++◌, length, reverse, map, Option, None, Some, option_map, Result, Ok, Err, cond}
+use Rattle.std.specs.Prelude.{ℕ, zero, suc, ◌&&◌, Bool, true, false, List, [], ◌∷◌, ◌++◌, length, reverse, map, Option, None, Some, option_map, Result, Ok, Err, cond}
 use Rattle.std.specs.Option.{option_and_then}
 use Rattle.std.specs.List.{filter, filter_map}
 use Rattle.hir_session_state.specs.HirBase.Place.{PlaceValue}
@@ -13,17 +13,16 @@ use Rattle.hir_session_state.specs.HirIds.declared.ids.ModuleId.{ModuleId}
 use Rattle.hir_session_state.specs.HirCollectorRules.declared.source_database.Key.{Key}
 use Rattle.hir_session_state.specs.HirCollectorRules.declared.source_database.Key.TheVariants.{Tree, Variants, Text, Input, Expansion, Map, Config}
 use Rattle.hir_session_state.specs.HirDefMapRules.State.{crate_map}
-use Rattle.hir_session_state.specs.HirTables.SourcePlaces.{ExpansionValue, expansion_value}
+use Rattle.hir_session_state.specs.HirTables.SourcePlaces.{ExpansionValue}
 use Rattle.hir_session_state.specs.HirTables.Tables.{TablesValue, entry_at}
 use Rattle.hir_session_state.specs.HirMessages.declared.reply.Status.{Status}
 use Rattle.hir_session_state.specs.HirMessages.declared.reply.Status.TheVariants as status
-use Rattle.hir_session_state.specs.HirMessages.declared.answer.Definition.{Definition}
-use Rattle.hir_session_state.specs.HirMessages.declared.answer.ItemSource.{ItemSource}
-use Rattle.hir_session_state.specs.HirMessages.declared.answer.SourceItem.{SourceItem}
+use Rattle.hir_session_state.specs.HirMessages.Reasons.{AlteredValue, a_call, a_crate, a_macro, a_source, an_enum, an_expansion}
+use Rattle.hir_session_state.specs.HirMessages.Reasons.{WhyValue, edited, is_behind, never_resolved, resolved}
+use Rattle.hir_session_state.specs.HirCrateGraph.CrateSet.{has_crate}
 use Rattle.hir_session_state.specs.declared.error.QueryError.{QueryError}
 use Rattle.hir_session_state.specs.declared.error.QueryError.TheVariants as error
 use Rattle.hir_session_state.specs.Blocks.{Blocks, place_of_block}
-use Rattle.hir_session_state.specs.Crates.{dependencies_in}
 use Rattle.hir_session_state.specs.Kept.{reason_in}
 use Rattle.hir_session_state.specs.Reasons.{ReasonValue}
 use Rattle.hir_session_state.specs.SessionState.{SessionState, Resolution, dependencies_of, is_marked, kept_of, module_of}
@@ -34,15 +33,6 @@ use Rattle.hir_session_answers.specs.SourceItems.{adt_definition, macro_definiti
 use Rattle.hir_session_answers.specs.Status.{status_of}
 
 -- ---- keys by what they name
-
--- a key for which runs ask, as a caller names it
-pub data AlteredValue : Type 0 where
-  a_source : ItemSource → AlteredValue
-  an_enum : Definition → AlteredValue
-  a_macro : Definition → AlteredValue
-  a_call : SourceItem → AlteredValue
-  an_expansion : ExpansionValue → AlteredValue
-  a_crate : Crate → AlteredValue
 
 abbrev pub altered_of : TablesValue → Key → Option AlteredValue
 altered_of tables (Tree key) = option_map a_source (source_of tables key.id.file key.id.block)
@@ -93,9 +83,17 @@ map_at s place = map_by s place.krate (innermost_block place.krate place.element
 abbrev pub root_place : Crate → PlaceValue
 root_place krate = record { krate = krate; elements = [] }
 
--- those of some crates that are stale
-abbrev pub stale_among : SessionState → List Crate → List Crate
-stale_among s crates = filter (λ krate. is_marked s (crate_map krate)) crates
+-- the crates before one of this number
+abbrev pub crates_below : ℕ → List Crate
+crates_below zero = []
+crates_below (suc n) = crates_below n ++ record { 0 = n } ∷ []
+
+abbrev pub is_stale_dependency : SessionState → Crate → Crate → Bool
+is_stale_dependency s krate other = has_crate (dependencies_of s krate.0) other && is_marked s (crate_map other)
+
+-- the stale ones among the crates on which one directly depends, in the order of their numbers
+abbrev pub stale_dependencies : SessionState → Crate → List Crate
+stale_dependencies s krate = filter (is_stale_dependency s krate) (crates_below krate.0)
 
 abbrev pub root_if_stale : SessionState → Crate → List PlaceValue
 root_if_stale s krate = cond (is_marked s (crate_map krate)) (root_place krate ∷ []) []
@@ -108,31 +106,25 @@ abbrev pub outer_if_stale : SessionState → Option BlockPlace → List PlaceVal
 outer_if_stale s None = []
 outer_if_stale s (Some outer) = cond (is_block_stale s (option_map (block_map outer.holder.krate) (block_number s.tables outer))) (place_of_block outer ∷ []) []
 
--- the stale places on which a crate's map or a block's directly stands, where these are the crates on which the crate depends in the order of their numbers
-abbrev pub behind_by : SessionState → Crate → List Crate → Option BlockPlace → List PlaceValue
-behind_by s krate named None = map root_place (stale_among s named)
-behind_by s krate named (Some block) =
+-- the stale places on which a crate's map or a block's directly stands
+abbrev pub behind_by : SessionState → Crate → Option BlockPlace → List PlaceValue
+behind_by s krate None = map root_place (stale_dependencies s krate)
+behind_by s krate (Some block) =
     root_if_stale s krate ++ outer_if_stale s (block_around s.sources.blocks krate block.holder.elements)
+
+abbrev pub behind_of : SessionState → PlaceValue → List PlaceValue
+behind_of s place = behind_by s place.krate (block_around s.sources.blocks place.krate place.elements)
 
 -- ---- the answer
 
--- why a place is stale, or what its resolution took
-pub data WhyValue : Type 0 where
-  never_resolved : WhyValue
-  -- so many keys were altered, and the first of them
-  edited : ℕ → List AlteredValue → WhyValue
-  -- these places are stale
-  is_behind : List PlaceValue → WhyValue
-  -- how many keys were asked for, and how many steps taken
-  resolved : ℕ → ℕ → WhyValue
+-- so many keys were altered, or none
+abbrev pub why_known : SessionState → PlaceValue → ℕ → List Key → WhyValue
+why_known s place zero keys = is_behind (behind_of s place)
+why_known s place (suc n) keys = edited (suc n) (altered_among s.tables keys)
 
-abbrev pub why_known : SessionState → List PlaceValue → ReasonValue → WhyValue
-why_known s behind (record { number = 0; keys = keys }) = is_behind behind
-why_known s behind reason = edited reason.number (altered_among s.tables reason.keys)
-
-abbrev pub why_from : SessionState → List PlaceValue → Option ReasonValue → WhyValue
-why_from s behind None = never_resolved
-why_from s behind (Some reason) = why_known s behind reason
+abbrev pub why_from : SessionState → PlaceValue → Option ReasonValue → WhyValue
+why_from s place None = never_resolved
+why_from s place (Some reason) = why_known s place reason.number reason.keys
 
 abbrev pub cost_of : Resolution → WhyValue
 cost_of r = resolved (length r.asked) r.steps
@@ -141,9 +133,9 @@ cost_of r = resolved (length r.asked) r.steps
 abbrev pub reason_of_map : SessionState → Option MapId → Option ReasonValue
 reason_of_map s map = option_and_then (λ (id : MapId). reason_in s.kept id) map
 
--- why a place that is stale is, where these are the stale ones on which it directly stands
-abbrev pub why_stale_of : SessionState → List PlaceValue → PlaceValue → WhyValue
-why_stale_of s behind place = why_from s behind (reason_of_map s (map_at s place))
+-- why a place that is stale is
+abbrev pub why_stale_of : SessionState → PlaceValue → WhyValue
+why_stale_of s place = why_from s place (reason_of_map s (map_at s place))
 
 abbrev pub cost_kept : Option Resolution → Result WhyValue QueryError
 cost_kept None = Err error.UnknownPlace
@@ -154,10 +146,10 @@ cost_at s None = Err error.UnknownPlace
 cost_at s (Some m) = cost_kept (kept_of s m.map)
 
 -- what is told of a place, where its answers stand so
-abbrev pub why_when : Status → SessionState → List PlaceValue → PlaceValue → Result WhyValue QueryError
-why_when status.Current s behind place = cost_at s (module_of s place)
-why_when status.Stale s behind place = Ok (why_stale_of s behind place)
-why_when status.Unknown s behind place = Err error.UnknownPlace
+abbrev pub why_when : Status → SessionState → PlaceValue → Result WhyValue QueryError
+why_when status.Current s place = cost_at s (module_of s place)
+why_when status.Stale s place = Ok (why_stale_of s place)
+why_when status.Unknown s place = Err error.UnknownPlace
 
-abbrev pub why_of : SessionState → List PlaceValue → PlaceValue → Result WhyValue QueryError
-why_of s behind place = why_when (status_of s place) s behind place
+abbrev pub why_of : SessionState → PlaceValue → Result WhyValue QueryError
+why_of s place = why_when (status_of s place) s place

@@ -1,8 +1,8 @@
 //! Why places are stale, in source items.
-ghost use Rattle.std.specs.Prelude.{◌≡◌, ◌++◌, ◌∷◌, [], length, IfOk, OnOk, option_map};
-ghost use Rattle.std.specs.Option.{option_copied};
-ghost use Rattle.hir_session_state.specs.HirTables.SourcePlaces.{expansion_value};
-ghost use Rattle.hir_session_answers.specs.Why.{altered_of, altered_among, block_around, key_of_source, IsTold};
+ghost use Rattle.std.specs.Prelude.{◌≡◌, ◌∷◌, [], length, reverse, map, IfOk, option_map};
+ghost use Rattle.hir_session_state.specs.Blocks.{place_of_block};
+ghost use Rattle.hir_session_state.specs.HirMessages.Reasons.{altered_view, a_crate};
+ghost use Rattle.hir_session_answers.specs.Why.{altered_of, altered_among, block_around, up_to_block};
 
 use crate::diagnostics::node_at;
 use crate::source_items::definitions::{adt_at, macro_at};
@@ -51,7 +51,7 @@ fn call_key(item: Option<SourceItem>) -> Option<AlteredKey> {
 
 /// A key for which runs ask, by what it names; None where its numbers mean nothing.
 fn altered_at(alloc: Global, tables: &Tables, key: Key) -> Result<Option<AlteredKey>, AllocError>
-    ensures value { IfOk result (λ o. o ≡ altered_of tables.now key) }
+    ensures value { IfOk result (λ o. option_map altered_view o ≡ altered_of tables.now key) }
 {
     match key {
         Key::Tree(tree) => source_key(alloc, tables, tree.id),
@@ -70,7 +70,7 @@ pub fn altered_keys(
     tables: &Tables,
     keys: &[Key],
 ) -> Result<AlteredKeys, AllocError>
-    ensures value { IfOk result (λ told. told ≡ altered_among tables.now keys.now) }
+    ensures value { IfOk result (λ told. map altered_view told ≡ altered_among tables.now keys.now) }
 {
     let mut told = Vec::new(alloc);
     for key in keys {
@@ -82,14 +82,18 @@ pub fn altered_keys(
 }
 
 /// A crate's data, alone.
-pub fn altered_crate(alloc: Global, krate: Crate) -> Result<AlteredKeys, AllocError> {
+pub fn altered_crate(alloc: Global, krate: Crate) -> Result<AlteredKeys, AllocError>
+    ensures value { IfOk result (λ told. map altered_view told ≡ a_crate krate ∷ []) }
+{
     let mut told = Vec::new(alloc);
     told.push(AlteredKey::Crate(krate))?;
     Ok(AlteredKeys::new(told))
 }
 
 /// How many of some steps lead to the innermost block on the way; 0 where there is none.
-pub fn steps_to_block(steps: &[PlaceElement]) -> usize {
+pub fn steps_to_block(steps: &[PlaceElement]) -> usize
+    ensures value { result ≡ length (up_to_block (reverse steps.now)) }
+{
     for left in 0..steps.len() {
         let count = steps.len() - left;
         if matches!(steps[count - 1], PlaceElement::Block(_)) {
@@ -105,7 +109,7 @@ pub fn block_around<'a>(
     krate: Crate,
     steps: &[PlaceElement],
 ) -> Option<&'a BlockPlace>
-    ensures value { option_copied result ≡ block_around blocks.now krate steps.now }
+    ensures value { option_map (λ p. place_of_block p.now) result ≡ option_map place_of_block (block_around blocks.now krate steps.now) }
 {
     let count = steps_to_block(steps);
     if count == 0 {

@@ -8,7 +8,10 @@ use Rattle.hir_session_core.specs.HirBase.declared.limit.Limit.TheVariants as li
 use Rattle.hir_session_core.specs.HirIds.declared.ids.Crate.{Crate}
 use Rattle.hir_session_core.specs.HirMessages.CommandValue.{CommandValue, CrateInputValue, crate_modules, crates, diagnostics}
 use Rattle.hir_session_core.specs.HirMessages.CommandValue.{dump, edit, file_modules, impl_items, names}
-use Rattle.hir_session_core.specs.HirMessages.CommandValue.{path_to, refresh, resolve, status, trait_items, tree}
+use Rattle.hir_session_core.specs.HirMessages.CommandValue.{path_to, reason, refresh, resolve, status, trait_items, tree}
+use Rattle.hir_session_core.specs.HirMessages.Reasons.{why_view}
+use Rattle.hir_session_core.specs.HirMessages.declared.why.Why.{Why}
+use Rattle.hir_session_core.specs.HirSessionAnswers.Why.{why_of}
 use Rattle.hir_session_core.specs.HirBase.ModPath.{Path}
 use Rattle.hir_session_core.specs.HirMessages.declared.answer.Definition.{Definition}
 use Rattle.hir_session_core.specs.HirMessages.declared.command.Namespace.{Namespace}
@@ -44,9 +47,10 @@ use Rattle.hir_session_core.specs.HirSessionAnswers.TreeText.{tree_text_of}
 use Rattle.hir_session_replies.specs.Replies.{edit_reply, modules_reply, names_reply, new_reply, query_error_reply, refresh_reply}
 use Rattle.hir_session_replies.specs.Replies.{tree_text_reply}
 use Rattle.hir_session_machine.specs.Machine.AnswersPath.{leads, finds_none, refuses_all}
-use Rattle.hir_session_machine.specs.Machine.{MachineState, AnswersCommand, AnswersPath, AnswersLine, Moves, makes_session}
+use Rattle.hir_session_machine.specs.Machine.AnswersWhy.{explains, explains_none}
+use Rattle.hir_session_machine.specs.Machine.{MachineState, AnswersCommand, AnswersPath, AnswersLine, AnswersWhy, Moves, makes_session}
 use Rattle.hir_session_machine.specs.Machine.Moves.{applies, refuses, refreshes, refreshes_partly, resolves, tells, shows, shows_none, dumps, dumps_none}
-use Rattle.hir_session_machine.specs.Machine.Moves.{asks_for_trait, asks_for_impl, lists, names_all, looks_for_path, lists_modules, lists_file_modules}
+use Rattle.hir_session_machine.specs.Machine.Moves.{asks_for_trait, asks_for_impl, lists, names_all, looks_for_path, tells_why, lists_modules, lists_file_modules}
 use Rattle.hir_session_machine.specs.Machine.AnswersCommand.{finds_no_memory, begins, refuses_session, comes_too_soon, comes_too_late, calls}
 use Rattle.hir_session_machine.specs.Machine.AnswersLine.{finds_no_memory_for_line, reads_no_command, carries_out}
 use Rattle.hir_session_machine.specs.AnsweredLines.{AnswersInput, AnswersLines, AnswersWithin}
@@ -73,6 +77,7 @@ Says s (tree krate path) answer t = (t ≡ s) × Shows (tree_text_of s krate pat
 Says s (diagnostics krate) answer t = ⊤
 Says s (names at) answer t = (t ≡ s) × (answer ≡ names_reply (names_of s at))
 Says s (path_to at def ns prefix most) answer t = (t ≡ s) × AnswersPath s at def ns prefix most answer
+Says s (reason at) answer t = (t ≡ s) × AnswersWhy s at answer
 Says s (crate_modules krate) answer t = (t ≡ s) × (answer ≡ modules_reply (modules_of s krate))
 Says s (file_modules path) answer t = (t ≡ s) × (answer ≡ reply.Places (file_modules_of s path))
 
@@ -94,6 +99,7 @@ said {s} {t} {answer = answer} (asks_for_impl at number is grown told) = subst (
 said {s} {t} {answer = answer} (lists krate is same told) = subst (λ (x : CommandValue). Says s x answer t) (sym is) tt
 said {s} {t} {answer = answer} (names_all at is same told) = subst (λ (x : CommandValue). Says s x answer t) (sym is) (same, told)
 said {s} {t} {answer = answer} (looks_for_path at def ns prefix most is same told) = subst (λ (x : CommandValue). Says s x answer t) (sym is) (same, told)
+said {s} {t} {answer = answer} (tells_why at is same told) = subst (λ (x : CommandValue). Says s x answer t) (sym is) (same, told)
 said {s} {t} {answer = answer} (lists_modules krate is same told) = subst (λ (x : CommandValue). Says s x answer t) (sym is) (same, told)
 said {s} {t} {answer = answer} (lists_file_modules path is same told) = subst (λ (x : CommandValue). Says s x answer t) (sym is) (same, told)
 
@@ -143,6 +149,12 @@ path_leads path (finds_none told) = absurd (let wrong : ⊥ = cc told in wrong)
 path_leads path (refuses_all query_error.StalePlace refused told) = absurd (let wrong : ⊥ = cc told in wrong)
 path_leads path (refuses_all query_error.UnknownPlace refused told) = absurd (let wrong : ⊥ = cc told in wrong)
 path_leads path (refuses_all query_error.Memory refused told) = absurd (let wrong : ⊥ = cc told in wrong)
+
+why_ok : {s : SessionState} {at : PlaceValue} (told : Why) → AnswersWhy s at (reply.Why told) → why_of s at ≡ Ok (why_view told)
+why_ok {s} {at} told (explains other found is) = let same : other ≡ told = cc is in subst (λ (w : Why). why_of s at ≡ Ok (why_view w)) same found
+why_ok told (explains_none query_error.StalePlace refused is) = absurd (let wrong : ⊥ = cc is in wrong)
+why_ok told (explains_none query_error.UnknownPlace refused is) = absurd (let wrong : ⊥ = cc is in wrong)
+why_ok told (explains_none query_error.Memory refused is) = absurd (let wrong : ⊥ = cc is in wrong)
 
 modules_ok : (r : Result (List PlaceValue) ModulesError) (list : List PlaceValue) → reply.Places list ≡ modules_reply r → r ≡ Ok list
 modules_ok (Ok other) list told = let same : other ≡ list = cc told in cc
@@ -203,6 +215,13 @@ names_command told = record {
 
 path_command : (told : Option Path) → IsOfCommand (reply.Path told)
 path_command told = record {
+  memory = λ e. (let wrong : ⊥ = cc e in wrong);
+  command = λ e. (let wrong : ⊥ = cc e in wrong);
+  long = λ e. (let wrong : ⊥ = cc e in wrong);
+}
+
+why_command : (told : Why) → IsOfCommand (reply.Why told)
+why_command told = record {
   memory = λ e. (let wrong : ⊥ = cc e in wrong);
   command = λ e. (let wrong : ⊥ = cc e in wrong);
   long = λ e. (let wrong : ⊥ = cc e in wrong);
@@ -321,6 +340,12 @@ module _ (n : ℕ) (old : MachineState) (lines : List (List ℕ)) (answers : Lis
   paths_told place def ns prefix most path gives is =
       let call = at_call (path_to place def ns prefix most) (reply.Path (Some path)) refl (path_command (Some path)) gives is in
       record { session = call.from; is = call.before; stays = call.after ∙ ap Some call.says.0; stands = path_leads path call.says.1 }
+
+  pub why_told : (place : PlaceValue) (told : Why) → Gives lines n (reason place) → slice_get answers n ≡ Some (reply.Why told)
+      → HoldsIn old lines answers new done n (λ s. why_of s place ≡ Ok (why_view told))
+  why_told place told gives is =
+      let call = at_call (reason place) (reply.Why told) refl (why_command told) gives is in
+      record { session = call.from; is = call.before; stays = call.after ∙ ap Some call.says.0; stands = why_ok told call.says.1 }
 
   pub modules_told : (krate : Crate) (told : List PlaceValue) → Gives lines n (crate_modules krate) → slice_get answers n ≡ Some (reply.Places told)
       → HoldsIn old lines answers new done n (λ s. modules_of s krate ≡ Ok told)

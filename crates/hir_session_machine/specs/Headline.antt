@@ -12,7 +12,10 @@ use Rattle.hir_session_core.specs.HirMessages.declared.answer.Definition.{Defini
 use Rattle.hir_session_core.specs.HirMessages.declared.command.Namespace.{Namespace}
 use Rattle.hir_session_core.specs.HirMessages.declared.command.PathPrefix.{PathPrefix}
 use Rattle.hir_session_core.specs.HirSessionAnswers.PathsTo.{LeadsTo}
-use Rattle.hir_session_core.specs.HirMessages.CommandValue.{refresh, resolve, status, trait_items, tree}
+use Rattle.hir_session_core.specs.HirMessages.CommandValue.{reason, refresh, resolve, status, trait_items, tree}
+use Rattle.hir_session_core.specs.HirMessages.Reasons.{why_view}
+use Rattle.hir_session_core.specs.HirMessages.declared.why.Why.{Why}
+use Rattle.hir_session_core.specs.HirSessionAnswers.Why.{why_of}
 use Rattle.hir_wire.specs.Commands.{reading_of}
 use Rattle.hir_session_core.specs.HirMessages.Edits.{EditValue}
 use Rattle.hir_session_core.specs.HirMessages.declared.answer.Answer.{Answer}
@@ -205,6 +208,9 @@ pub record Headline (lines : List (List ℕ)) (answers : List Reply) (last : Mac
   pub finds_paths : (n : ℕ) (place : PlaceValue) (def : Definition) (ns : Namespace) (prefix : PathPrefix) (most : ℕ) (path : Path)
       → Gives lines n (path_to place def ns prefix most) → slice_get answers n ≡ Some (reply.Path (Some path))
       → HoldsIn first_state lines answers last done n (λ s. LeadsTo s place def ns prefix most path)
+  -- so is why a place is stale, or what its resolution took
+  pub tells_why : (n : ℕ) (place : PlaceValue) (told : Why) → Gives lines n (reason place) → slice_get answers n ≡ Some (reply.Why told)
+      → HoldsIn first_state lines answers last done n (λ s. why_of s place ≡ Ok (why_view told))
   -- so are the modules of a crate, and those that a file is
   pub lists_modules : (n : ℕ) (krate : Crate) (told : List PlaceValue) → Gives lines n (crate_modules krate) → slice_get answers n
       ≡ Some (reply.Places told)

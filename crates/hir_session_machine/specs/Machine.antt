@@ -9,7 +9,9 @@ use Rattle.hir_session_core.specs.HirIds.declared.ids.TraitId.{TraitId}
 use Rattle.hir_session_core.specs.HirMessages.Edits.{EditValue}
 use Rattle.hir_session_core.specs.HirMessages.CommandValue.{CommandValue, CrateInputValue, crate_modules, crates, diagnostics}
 use Rattle.hir_session_core.specs.HirMessages.CommandValue.{dump, edit, file_modules, impl_items, names, refresh}
-use Rattle.hir_session_core.specs.HirMessages.CommandValue.{path_to, resolve, status, trait_items, tree}
+use Rattle.hir_session_core.specs.HirMessages.CommandValue.{path_to, reason, resolve, status, trait_items, tree}
+use Rattle.hir_session_core.specs.HirMessages.Reasons.{why_view}
+use Rattle.hir_session_core.specs.HirMessages.declared.why.Why.{Why}
 use Rattle.hir_wire.specs.Commands.{reading_of}
 use Rattle.hir_session_core.specs.HirMessages.declared.answer.Definition.{Definition}
 use Rattle.hir_session_core.specs.HirMessages.declared.command.Namespace.{Namespace}
@@ -41,6 +43,7 @@ use Rattle.hir_session_core.specs.HirSessionAnswers.Dumps.{dump_at}
 use Rattle.hir_session_core.specs.HirSessionAnswers.Modules.{file_modules_of, modules_of}
 use Rattle.hir_session_core.specs.HirSessionAnswers.Names.{names_of}
 use Rattle.hir_session_core.specs.HirSessionAnswers.PathsTo.{AreRefused, LeadsTo}
+use Rattle.hir_session_core.specs.HirSessionAnswers.Why.{why_of}
 use Rattle.hir_session_core.specs.HirSessionAnswers.AssocItems.{impl_at, trait_at, ListsImpl, ListsTrait, RefusesImpl, RefusesTrait}
 use Rattle.hir_session_replies.specs.Replies.{new_reply, edit_reply, refresh_reply, query_error_reply, query_reply, trait_items_reply, impl_items_reply}
 use Rattle.hir_session_replies.specs.Replies.{tree_text_reply, diagnostics_reply, modules_reply, names_reply, read_reply}
@@ -77,6 +80,15 @@ pub data AnswersPath (s : SessionState) (at : PlaceValue) (def : Definition) (ns
   finds_none : answer ≡ reply.Path None → AnswersPath s at def ns prefix most answer
   -- no path is answered at the place
   refuses_all : (why : QueryError) → AreRefused s at why → answer ≡ query_error_reply why → AnswersPath s at def ns prefix most answer
+
+-- ---- reasons
+
+-- what is told of why a place is stale
+pub data AnswersWhy (s : SessionState) (at : PlaceValue) (answer : Reply) : Type 0 where
+  -- it is told why, or what its resolution took
+  explains : (told : Why) → why_of s at ≡ Ok (why_view told) → answer ≡ reply.Why told → AnswersWhy s at answer
+  -- there is no such place
+  explains_none : (why : QueryError) → why_of s at ≡ Err why → answer ≡ query_error_reply why → AnswersWhy s at answer
 
 -- ---- one call
 
@@ -120,6 +132,8 @@ pub data Moves (s : SessionState) (c : CommandValue) (answer : Reply) (t : Sessi
   -- a path to a definition is looked for
   looks_for_path : (at : PlaceValue) (def : Definition) (ns : Namespace) (prefix : PathPrefix) (most : ℕ) → c ≡ path_to at def ns prefix most → t ≡ s
       → AnswersPath s at def ns prefix most answer → Moves s c answer t
+  -- it is told why a place is stale
+  tells_why : (at : PlaceValue) → c ≡ reason at → t ≡ s → AnswersWhy s at answer → Moves s c answer t
   -- the modules of a crate are listed
   lists_modules : (krate : Crate) → c ≡ crate_modules krate → t ≡ s → answer ≡ modules_reply (modules_of s krate) → Moves s c answer t
   -- and those that a file is
@@ -149,6 +163,7 @@ makes_session (tree krate path) = false
 makes_session (diagnostics krate) = false
 makes_session (names at) = false
 makes_session (path_to at def ns prefix most) = false
+makes_session (reason at) = false
 makes_session (crate_modules krate) = false
 makes_session (file_modules path) = false
 

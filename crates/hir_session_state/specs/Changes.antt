@@ -1,5 +1,5 @@
 -- What do the calls of a session change?
-use Rattle.std.specs.Prelude.{◌≡◌, ◌⊎◌, true, false, List}
+use Rattle.std.specs.Prelude.{◌≡◌, ◌⊎◌, true, false, List, Some}
 use Rattle.hir_collector_rules.specs.HirBase.Place.{PlaceValue}
 use Rattle.hir_collector_rules.specs.HirIds.declared.ids.MapId.{MapId}
 use Rattle.hir_collector_rules.specs.HirIds.declared.ids.Crate.{Crate}
@@ -11,8 +11,9 @@ use Rattle.hir_session_state.specs.Crates.{crate_in, with_config}
 use Rattle.hir_session_state.specs.Inputs.{InputsValue, workspace_by}
 use Rattle.hir_session_state.specs.SourceEdits.{InputEdit, edit_of, edited, source_edit, crate_edit}
 use Rattle.hir_session_state.specs.SourceTable.{SourceTable}
+use Rattle.hir_session_state.specs.Kept.{Resolution, reason_in}
 use Rattle.hir_session_state.specs.SessionState.{SessionState, kept_of, is_marked, IsSound}
-use Rattle.hir_session_state.specs.Marks.{marks_after}
+use Rattle.hir_session_state.specs.Marks.{HasReason, marks_after}
 use Rattle.hir_session_state.specs.Due.{AreResolved, IsNext}
 use Rattle.hir_collector_rules.specs.HirTables.Tables.{KeepsTables}
 
@@ -24,6 +25,10 @@ pub record IsHandedIn (old : SessionState) (inputs : InputsValue) (new : Session
   pub only : (id : MapId) → is_marked new id ≡ true → marks_after old (workspace_by inputs) id
   pub all : (id : MapId) → marks_after old (workspace_by inputs) id → is_marked new id ≡ true
   pub kept : (id : MapId) → is_marked new id ≡ false → kept_of new id ≡ kept_of old id
+  -- of each place that became stale it is known why, and of those that were stale what was
+  pub explained : (id : MapId) (r : Resolution) → kept_of old id ≡ Some r → is_marked new id ≡ true
+      → HasReason old (workspace_by inputs) r (reason_in new.kept id)
+  pub noted : (id : MapId) → is_marked old id ≡ true → reason_in new.kept id ≡ reason_in old.kept id
   -- what isn't marked is what the import rules could have given just now
   pub sound : IsSound new
 
@@ -57,6 +62,8 @@ pub record Resolves (old : SessionState) (done : List PlaceValue) (new : Session
   pub sources : new.sources ≡ old.sources
   pub in_turn : AreResolved old done new
   pub others : (id : MapId) → is_marked old id ≡ false → kept_of new id ≡ kept_of old id
+  -- of those that are still stale it is known what was
+  pub noted : (id : MapId) → is_marked new id ≡ true → reason_in new.kept id ≡ reason_in old.kept id
   -- what isn't marked is what the import rules could have given just now
   pub sound : IsSound new
 

@@ -23,7 +23,7 @@ ghost use Rattle.hir_session_answers.specs.PathsTo.{AreRefused, LeadsTo};
 
 use super::Session;
 use hir_base::file_path::FilePath;
-use hir_base::ids::{Crate, MapId};
+use hir_base::ids::{Crate, MapId, ModuleId};
 use hir_base::mod_path::ModPath;
 use hir_base::place::Place;
 use hir_item_tree::source::Source;

@@ -1,7 +1,7 @@
 //! Why places are stale.
-ghost use Rattle.std.specs.Prelude.{◌≡◌, IfOk, IfSome};
-ghost use Rattle.hir_session_state.specs.HirIds.Refusal.{Gives};
+ghost use Rattle.std.specs.Prelude.{◌≡◌, ◌⊎◌, IfOk, IfErr, Ok, Err};
 ghost use Rattle.hir_session_state.specs.Refusals.{IsQueryMemory};
+ghost use Rattle.hir_session_state.specs.HirMessages.Reasons.{why_view};
 ghost use Rattle.hir_session_answers.specs.Why.{behind_of, map_at, why_of, why_stale_of};
 
 use super::Session;
@@ -101,7 +101,7 @@ impl Session {
 
     /// Why a place is stale.
     fn why_stale(&self, alloc: Global, place: &Place) -> Result<Why, AllocError>
-        ensures value { IfOk result (λ why. why ≡ why_stale_of self.now place.now) }
+        ensures value { IfOk result (λ why. why_view why ≡ why_stale_of self.now place.now) }
     {
         let Some(id) = self.map_at(place) else {
             return Ok(Why::NeverResolved);
@@ -130,7 +130,8 @@ impl Session {
 
     /// Why a place is stale, or what its resolution took, where it is current.
     pub fn why(&self, alloc: Global, place: &Place) -> Result<Why, QueryError>
-        ensures value { Gives IsQueryMemory result (why_of self.now place.now) }
+        ensures told { IfOk result (λ why. why_of self.now place.now ≡ Ok (why_view why)) }
+        ensures refused { IfErr result (λ e. IsQueryMemory e ⊎ (why_of self.now place.now ≡ Err e)) }
     {
         match self.status(place) {
             Status::Current => match self.cost(place) {

@@ -8,15 +8,15 @@ use Rattle.hir_session_machine.specs.Machine.AnswersCommand.{calls, finds_no_mem
 use Rattle.hir_session_machine.proofs.server_state.path_found.Goals as goal
 
 pub returns-in-Ok-in-Some : goal.returns-in-Ok-in-Some
-returns-in-Ok-in-Some c = record { step = calls _ _ refl (looks_for_path _ _ _ _ _ refl refl (leads _ c.in-Ok.ensures.found refl)) refl }
+returns-in-Ok-in-Some c = record { step = calls _ _ refl (looks_for_path _ _ _ _ _ refl c.path_to.ensures.same (leads _ c.in-Ok.ensures.found refl)) refl }
 
 pub returns-in-Ok-in-None : goal.returns-in-Ok-in-None
-returns-in-Ok-in-None c = record { step = calls _ _ refl (looks_for_path _ _ _ _ _ refl refl (finds_none refl)) refl }
+returns-in-Ok-in-None c = record { step = calls _ _ refl (looks_for_path _ _ _ _ _ refl c.path_to.ensures.same (finds_none refl)) refl }
 
 pub returns-in-Err : goal.returns-in-Err
 returns-in-Err c = record {
   step = elim c.in-Err.ensures.refused [
     | inl memory ↦ finds_no_memory (c.reply_to_query.ensures.value ∙ ap (λ (e : QueryError). query_error_reply e) memory) refl
-    | inr refused ↦ calls _ _ refl (looks_for_path _ _ _ _ _ refl refl (refuses_all _ refused c.reply_to_query.ensures.value)) refl
+    | inr refused ↦ calls _ _ refl (looks_for_path _ _ _ _ _ refl c.path_to.ensures.same (refuses_all _ refused c.reply_to_query.ensures.value)) refl
   ];
 }
