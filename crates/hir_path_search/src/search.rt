@@ -190,9 +190,7 @@ impl<S: Sought, I: Indexes> PathSearch<'_, S, I> {
                 let names = names_of(index.bound(key), module.index);
                 self.last_bound(alloc, looks, scope, names, best)
             }
-            None => {
-                self.last_leading(alloc, looks, scope, index.leading(module.index), best)
-            }
+            None => { self.last_leading(alloc, looks, scope, index.leading(module.index), best) }
         }
     }
 

@@ -19,7 +19,11 @@ use hir_session_state::hir_messages::why::{AlteredKey, AlteredKeys};
 use hir_tables::Tables;
 use std::alloc::{AllocError, Global};
 
-fn source_key(alloc: Global, tables: &Tables, id: TreeId) -> Result<Option<AlteredKey>, AllocError> {
+fn source_key(
+    alloc: Global,
+    tables: &Tables,
+    id: TreeId,
+) -> Result<Option<AlteredKey>, AllocError> {
     match source_at(alloc, tables, id.file, id.block)? {
         Some(source) => Ok(Some(AlteredKey::Source(source))),
         None => Ok(None),
@@ -65,11 +69,7 @@ fn altered_at(alloc: Global, tables: &Tables, key: Key) -> Result<Option<Altered
 }
 
 /// Keys for which runs ask, by what they name.
-pub fn altered_keys(
-    alloc: Global,
-    tables: &Tables,
-    keys: &[Key],
-) -> Result<AlteredKeys, AllocError>
+pub fn altered_keys(alloc: Global, tables: &Tables, keys: &[Key]) -> Result<AlteredKeys, AllocError>
     ensures value { IfOk result (λ told. map altered_view told ≡ altered_among tables.now keys.now) }
 {
     let mut told = Vec::new(alloc);

@@ -202,13 +202,7 @@ impl Session {
             hits,
             reasons,
             trees,
-        } = invalidated(
-            alloc,
-            &self.inputs,
-            &self.tables,
-            &self.askers,
-            edit,
-        )?;
+        } = invalidated(alloc, &self.inputs, &self.tables, &self.askers, edit)?;
         self.inputs.set_file(file, source, trees)?;
         explain_each(&mut self.kept, reasons);
         forget(
@@ -234,13 +228,7 @@ impl Session {
             hits,
             reasons,
             trees,
-        } = invalidated(
-            alloc,
-            &self.inputs,
-            &self.tables,
-            &self.askers,
-            edit,
-        )?;
+        } = invalidated(alloc, &self.inputs, &self.tables, &self.askers, edit)?;
         self.inputs.remove_file(file, trees);
         explain_each(&mut self.kept, reasons);
         forget(
@@ -271,13 +259,7 @@ impl Session {
             hits,
             reasons,
             trees: _,
-        } = invalidated(
-            alloc,
-            &self.inputs,
-            &self.tables,
-            &self.askers,
-            edit,
-        )?;
+        } = invalidated(alloc, &self.inputs, &self.tables, &self.askers, edit)?;
         self.inputs.set_expansion(key, entry)?;
         explain_each(&mut self.kept, reasons);
         forget(
@@ -300,13 +282,7 @@ impl Session {
             hits,
             reasons,
             trees: _,
-        } = invalidated(
-            alloc,
-            &self.inputs,
-            &self.tables,
-            &self.askers,
-            edit,
-        )?;
+        } = invalidated(alloc, &self.inputs, &self.tables, &self.askers, edit)?;
         self.inputs.remove_expansion(key);
         explain_each(&mut self.kept, reasons);
         forget(

@@ -85,13 +85,7 @@ impl Session {
             hits,
             reasons,
             trees: _,
-        } = invalidated(
-            alloc,
-            &self.inputs,
-            &self.tables,
-            &self.askers,
-            edit,
-        )?;
+        } = invalidated(alloc, &self.inputs, &self.tables, &self.askers, edit)?;
         let one = PendingBlock::new(alloc, &block)?;
         let own = self.block_id(&block);
         self.inputs.set_block(block, source)?;
@@ -124,13 +118,7 @@ impl Session {
             hits,
             reasons,
             trees: _,
-        } = invalidated(
-            alloc,
-            &self.inputs,
-            &self.tables,
-            &self.askers,
-            edit,
-        )?;
+        } = invalidated(alloc, &self.inputs, &self.tables, &self.askers, edit)?;
         let one = PendingBlock::new(alloc, block)?;
         self.inputs.remove_block(block)?;
         explain_each(&mut self.kept, reasons);
