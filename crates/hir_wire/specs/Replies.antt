@@ -203,16 +203,20 @@ abbrev pub macro_text_data : MacroText → Data
 macro_text_data m = object (member (codes "crate") (number_data m.krate.0) (member (codes "text") (string m.text) no_members))
 
 -- the macros that the paths of an entry reach, where there are some
-abbrev pub reached_members : List MacroText → Members → Members
-reached_members [] more = more
-reached_members (m ∷ ms) more = member (codes "reached") (array (items_of (map macro_text_data (m ∷ ms)))) more
+abbrev pub reached_data : List MacroText → Option Data
+reached_data [] = None
+reached_data (m ∷ ms) = Some (array (items_of (map macro_text_data (m ∷ ms))))
+
+abbrev pub and_reached : Option Data → Members → Members
+and_reached None more = more
+and_reached (Some macros) more = member (codes "reached") macros more
 
 -- the key of an expansion, as it is handed in
 abbrev pub key_data : ExpansionValue → Data
 key_data key =
     object (member (codes "call") (style_data key.call) (member (codes "caller") (number_data key.caller.0)
     (member (codes "crate") (number_data key.called.krate.0) (member (codes "input") (string key.input)
-    (reached_members key.reached (member (codes "text") (string key.called.text) no_members))))))
+    (and_reached (reached_data key.reached) (member (codes "text") (string key.called.text) no_members))))))
 
 -- what an edit altered
 abbrev pub altered_data : AlteredKey → Data

@@ -1,9 +1,9 @@
 //! Why places are stale, as JSON.
-ghost use Rattle.std.specs.Prelude.{◌≡◌, IfOk, codes, map};
+ghost use Rattle.std.specs.Prelude.{◌≡◌, IfOk, codes, map, option_map};
 ghost use Rattle.serde_json.specs.Data.{member, no_members, object, string};
 ghost use Rattle.serde_json.specs.View.{view};
 ghost use Rattle.hir_tables.specs.SourcePlaces.{expansion_value};
-ghost use Rattle.hir_wire.specs.Replies.{altered_data, key_data, macro_text_data, style_data, why_data};
+ghost use Rattle.hir_wire.specs.Replies.{altered_data, and_reached, key_data, macro_text_data, number_data, reached_data, style_data, why_data};
 
 use crate::why::{AlteredKey, AlteredKeys, Why};
 use crate::write::definition::{definition_value, source_value};
@@ -39,20 +39,49 @@ fn macro_texts_list(alloc: Global, macros: &[MacroText]) -> Result<Vec<Value>, A
     Ok(values)
 }
 
+/// The macros that the paths of an entry reach, where there are some.
+#[tactic(auto, using(crate::proofs::Reached::reached_none, crate::proofs::Reached::reached_some))]
+fn reached_value(alloc: Global, macros: &[MacroText]) -> Result<Option<Value>, AllocError>
+    ensures value { IfOk result (λ v. option_map view v ≡ reached_data macros.now) }
+{
+    match macros {
+        [] => Ok(None),
+        [_, ..] => Ok(Some(Value::Array(macro_texts_list(alloc, macros)?))),
+    }
+}
+
+/// A key with these macros.
+fn key_with(
+    alloc: Global,
+    key: &ExpansionKey,
+    call: Value,
+    reached: Option<Value>,
+) -> Result<Value, AllocError>
+    ensures value { IfOk result (λ v. view v ≡ object (member (codes "call") (view call) (member (codes "caller") (number_data key.now.caller.0)
+        (member (codes "crate") (number_data key.now.called.krate.0) (member (codes "input") (string key.now.input)
+        (and_reached (option_map view reached) (member (codes "text") (string key.now.called.text) no_members))))))) }
+{
+    let caller = key.caller.0;
+    let krate = key.called.krate.0;
+    let input = key.input.as_str();
+    let text = key.called.text.as_str();
+    match reached {
+        None => {
+            json!(in alloc; {"call": call, "caller": caller, "crate": krate, "input": input, "text": text})
+        }
+        Some(reached) => {
+            json!(in alloc; {"call": call, "caller": caller, "crate": krate, "input": input, "reached": reached, "text": text})
+        }
+    }
+}
+
 /// The key of an expansion, as it is handed in.
 fn key_value(alloc: Global, key: &ExpansionKey) -> Result<Value, AllocError>
     ensures value { IfOk result (λ v. view v ≡ key_data (expansion_value key.now)) }
 {
     let call = style_value(alloc, key.call)?;
-    let caller = key.caller.0;
-    let krate = key.called.krate.0;
-    let input = key.input.as_str();
-    let text = key.called.text.as_str();
-    if key.reached.is_empty() {
-        return json!(in alloc; {"call": call, "caller": caller, "crate": krate, "input": input, "text": text});
-    }
-    let reached = Value::Array(macro_texts_list(alloc, key.reached.as_slice())?);
-    json!(in alloc; {"call": call, "caller": caller, "crate": krate, "input": input, "reached": reached, "text": text})
+    let reached = reached_value(alloc, key.reached.as_slice())?;
+    key_with(alloc, key, call, reached)
 }
 
 /// One value under a word.
