@@ -142,6 +142,19 @@ module _ {K E : Type 0} (cmp : K → K → Ordering) (total : IsTotalOrder cmp) 
       ap (λ (o : Option ℕ). option_map (λ i. suc i) o) (no_position es i (sorted_tail cmp e.0 (keys_of es) s) a.1 q)
       ∙ sym (ap (λ r. cond (is_eq r) (Some 0) (option_map (λ i. suc i) (position_of cmp (keys_of es) k))) a.0)
 
+-- ---- where a query belongs
+
+module _ {K E : Type 0} (compare : K → Ordering) (es : List (K × E)) (i : ℕ) where
+  pub belongs_before : i ≤ length es → IsAboveFirst compare es i → ComparesAt compare es i Less → BelongsAt compare es i false
+  belongs_before within above there = record { above = above; there = there; within = within; inside = λ found. absurd (true≢false (sym found)) }
+
+  pub belongs_here : i < length es → IsAboveFirst compare es i → ComparesAt compare es i Equal → BelongsAt compare es i true
+  belongs_here inside above there = record { above = above; there = there; within = omega (arith, inside); inside = λ found. inside }
+
+  -- behind all entries
+  pub belongs_last : i ≡ length es → IsAboveFirst compare es i → BelongsAt compare es i false
+  belongs_last end above = belongs_before (omega (arith, end)) above (subst (λ n. ComparesAt compare es n Less) (sym end) (above_none compare es))
+
 -- ---- what is at a place
 
 pub there_is : {X : Type 0} (xs : List X) (i : ℕ) → i < length xs → (x : X) × (slice_get xs i ≡ Some x)

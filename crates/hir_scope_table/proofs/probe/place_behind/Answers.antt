@@ -1,0 +1,48 @@
+use Rattle.std.proofs.Common.{◌≡◌, ◌∙◌, ap, sym, subst, refl, ◌+◌, ◌-◌, ◌<◌, ◌≤◌, length, arith, suc}
+use Rattle.std.specs.Ordering.{nat_cmp}
+use Rattle.std.specs.Cmp.Lexicographic.{slice_cmp}
+use Rattle.std.specs.declared.cmp.Ordering.TheVariants.{Less, Equal, Greater}
+use Rattle.std.proofs.lemmas.Cmp.{nat_list_cmp_total}
+use Rattle.hir_scope_table.specs.Inner.Place.{IsAboveFirst}
+use Rattle.hir_scope_table.proofs.Places.{above_none, above_one_more, belongs_before, belongs_here, belongs_last, compares_at}
+use Rattle.hir_scope_table.proofs.probe.place_behind.Goals as goal
+
+pub returns-then-from-entries : goal.returns-then-from-entries
+returns-then-from-entries g c = record {
+  belongs = belongs_last (slice_cmp nat_cmp c.args.name.now) c.args.entries.now c.args.from (omega (arith, c.if-from-entries.true)) c.requires.above;
+}
+
+pub place_within-requires-clause-above : goal.place_within-requires-clause-above
+place_within-requires-clause-above g c =
+    let es = c.args.entries.now in
+    let compare = slice_cmp nat_cmp c.args.name.now in
+    let inside : c.args.from < length es = omega (arith, c.requires.within, c.if-from-entries.false) in
+    let here = compares_at compare es c.args.from c.index-entries-from.result Greater c.index-entries-from.is
+    (ap compare (sym c.name.ensures.value) ∙ sym c.in-Greater.ensures.value) in
+    let next : suc c.args.from ≡ c.args.from + 1 = omega arith in
+    subst (IsAboveFirst compare es) next (above_one_more (slice_cmp nat_cmp) nat_list_cmp_total c.args.name.now es c.args.from inside c.requires.above here)
+
+pub place_within-requires-clause-below : goal.place_within-requires-clause-below
+place_within-requires-clause-below g c = above_none (slice_cmp nat_cmp c.args.name.now) c.args.entries.now
+
+pub returns-in-Less : goal.returns-in-Less
+returns-in-Less g c =
+    let es = c.args.entries.now in
+    let compare = slice_cmp nat_cmp c.args.name.now in
+    record {
+      belongs =
+          belongs_before compare es c.args.from c.requires.within c.requires.above
+          (compares_at compare es c.args.from c.index-entries-from.result Less c.index-entries-from.is
+          (ap compare (sym c.name.ensures.value) ∙ sym c.in-Less.ensures.value));
+    }
+
+pub returns-in-Equal : goal.returns-in-Equal
+returns-in-Equal g c =
+    let es = c.args.entries.now in
+    let compare = slice_cmp nat_cmp c.args.name.now in
+    record {
+      belongs =
+          belongs_here compare es c.args.from (omega (arith, c.requires.within, c.if-from-entries.false)) c.requires.above
+          (compares_at compare es c.args.from c.index-entries-from.result Equal c.index-entries-from.is
+          (ap compare (sym c.name.ensures.value) ∙ sym c.in-Equal.ensures.value));
+    }
