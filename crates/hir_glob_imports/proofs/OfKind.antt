@@ -196,22 +196,3 @@ module _ (P : Visibility → Type 0) where
       each (stays k x there ends wider is) j d found = kinds.edges j d (subst (λ (es : List Edge). slice_get es j ≡ Some d) is found)
       each (adds apart is) j d found =
           one_more e (length old) of_kind j d (one_or_last old e j d (subst (λ (es : List Edge). slice_get es j ≡ Some d) is found))
-
--- ---- what is brought is listed
-
-looked_up : (s : Slot) (es : List (Slot × Brought)) (by : Brought) → lookup (is_at (slot_order.ghosts.cmp s)) es ≡ Some by
-    → Contains (list_map (λ (e : Slot × Brought). e.0) es) s
-looked_up s [] by is = absurd cc
-looked_up s (e ∷ es) by is = go (looked_up s es by) (same_slot s e.0) refl is
-  where
-    later : Contains (list_map (λ (x : Slot × Brought). x.0) es) s → Contains (list_map (λ (x : Slot × Brought). x.0) (e ∷ es)) s
-    later h = Contains-append_right (e.0 ∷ []) (list_map (λ (x : Slot × Brought). x.0) es) s h
-
-    go : (lookup (is_at (slot_order.ghosts.cmp s)) es ≡ Some by → Contains (list_map (λ (x : Slot × Brought). x.0) es) s)
-        → (t : Bool) → same_slot s e.0 ≡ t → lookup (is_at (slot_order.ghosts.cmp s)) (e ∷ es) ≡ Some by
-        → Contains (list_map (λ (x : Slot × Brought). x.0) (e ∷ es)) s
-    go rest true same found = (0, omega arith, sym (exact_slot s e.0 same))
-    go rest false other found = later (rest (sym (lookup_tail (is_at (slot_order.ghosts.cmp s)) e es other) ∙ found))
-
-pub brought_listed : (g : GlobsValue) (s : Slot) (by : Brought) → brought_of g s ≡ Some by → Contains (list_map (λ (e : Slot × Brought). e.0) g.brought) s
-brought_listed g s by is = looked_up s g.brought by is

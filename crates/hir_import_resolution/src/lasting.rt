@@ -21,6 +21,7 @@ use crate::imports::Imports;
 use crate::scopes::{bound_inside, trait_vis};
 use hir_base::ids::{AdtId, EnumId, ModuleDefId, TraitId};
 use hir_glob_imports::{Edge, GlobImports, Slot, Target};
+use hir_nameres::hir_scope::item_scope::iter::bindings::Bindings;
 use hir_nameres::hir_scope::per_ns::TypesItem;
 use hir_nameres::hir_scope::visibility::Visibility;
 use hir_nameres::nameres::DefMap;
@@ -163,15 +164,39 @@ fn are_edges_firm(map: &DefMap, edges: &[Edge]) -> bool
     true
 }
 
+/// Whether the visibilities of items name modules that are there.
+fn are_placed<Def, Import>(map: &DefMap, items: Bindings<'_, Def, Import>) -> bool {
+    let mut left = items;
+    'next: while let Some((_name, item)) = left.next() {
+        if !is_placed(map, item.vis) {
+            return false;
+        }
+    }
+    true
+}
+
+/// Whether the visibilities of all that names stand for in a module name modules that are there.
+fn is_scope_placed(map: &DefMap, at: u32) -> bool {
+    match map.scope(at) {
+        Some(scope) => {
+            are_placed(map, scope.types())
+                && are_placed(map, scope.values())
+                && are_placed(map, scope.macros())
+        }
+        None => true,
+    }
+}
+
 /// Whether the visibilities of what globs brought name modules that are there.
 fn is_brought_placed(map: &DefMap, globs: &GlobImports) -> bool
     ensures placed { result ≡ true → (s : GlobSlot) (by : Brought) (b : Bound) → brought_of globs.now s ≡ Some by → bound_inside s.key (module_at map.now s.at) ≡ Some b → IsPlaced map.now b.vis }
 {
-    let mut left = globs.brought_slots();
-    'next: while let Some(slot) = left.next() {
-        if !is_placed_at(map, slot) {
+    let mut at = 0;
+    'modules: while at < map.module_count() {
+        if !is_scope_placed(map, at) {
             return false;
         }
+        at += 1;
     }
     true
 }

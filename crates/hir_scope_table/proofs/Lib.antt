@@ -11,3 +11,4 @@ pub mod Places
 pub mod Edits
 pub mod Revisions
 pub mod Names
+pub mod ByModule
