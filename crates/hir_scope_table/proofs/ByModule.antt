@@ -1,5 +1,5 @@
 -- Pairs that are kept by their first parts, against pairs in one list.
-use Rattle.std.proofs.Common.{◌≡◌, ◌∙◌, ap, sym, subst, refl, true, false, Bool, ◌||◌, List, [], ◌∷◌, ◌++◌, Option, None, Some, cond, map}
+use Rattle.std.proofs.Common.{◌≡◌, ◌∙◌, ap, sym, subst, refl, true, false, Bool, ◌||◌, not, List, [], ◌∷◌, ◌++◌, Option, None, Some, cond, map, unwrap_or}
 use mathlib.Core.Bool.{true≢false}
 use Rattle.std.specs.Option.{is_some}
 use Rattle.std.specs.declared.cmp.Ordering.{Ordering}
@@ -15,6 +15,7 @@ use Rattle.std.specs.Set.{remove_key}
 use Rattle.std.proofs.lemmas.Cmp.{tied_itself}
 use Rattle.std.proofs.lemmas.Map.Keys.{sorted_head, sorted_tail}
 use Rattle.hir_scope_table.specs.Inner.Places.{pair_cmp, pairs_of}
+use Rattle.hir_scope_table.specs.Inner.Reserved.{IsKeyFor}
 use Rattle.hir_scope_table.proofs.Slots.{lookup-below}
 
 -- the things at a key, if there are some
@@ -253,6 +254,46 @@ module _ {M N E : Type 0} (first : M → M → Ordering) (total : IsTotalOrder f
       → remove_key (is_at (pair_cmp first second (m, n))) (pairs_of things es) ≡ pairs_of things es
   remove_none es s h = remove-absent (is_at (pair_cmp first second (m, n))) (pairs_of things es)
       (any_of es s ∙ ap (λ o. list_any (is_at (second n)) (things_or_none things o)) h)
+
+  -- other things at a key that is there, which are the same ones
+  same_there : (es : List (M × E)) (old new : E) → lookup (is_at (first m)) es ≡ Some old → things new ≡ things old
+      → pairs_of things (set_value (is_at (first m)) es new) ≡ pairs_of things es
+  same_there [] old new h made = refl
+  same_there (e ∷ es) old new h made = go (is_eq (first m e.0)) h
+    where
+      go : (b : Bool) → cond b (Some e.1) (lookup (is_at (first m)) es) ≡ Some old
+          → pairs_of things (cond b ((e.0, new) ∷ es) (e ∷ set_value (is_at (first m)) es new)) ≡ pairs_of things (e ∷ es)
+      go true f = ap (λ xs. map (λ x. (e.0, x)) xs ++ pairs_of things es) (made ∙ ap things (ap (λ (o : Option E). unwrap_or o e.1) (sym f)))
+      go false f = ap (λ ps. map (λ x. (e.0, x)) (things e.1) ++ ps) (same_there es old new f made)
+
+  -- a key that is there gets a thing, which may be there
+  pub key_there : (es : List (M × E)) (old new : E) (added : Bool) → IsStrictlySortedBy first (keys_of es) → lookup (is_at (first m)) es ≡ Some old
+      → IsKeyFor second (things old) n true added (things new)
+      → IsKeyFor (pair_cmp first second) (pairs_of things es) (m, n) true added (pairs_of things (set_value (is_at (first m)) es new))
+  key_there es old new added s h key = record { made = go added key.made; was_absent = key.was_absent ∙ sym (ap not same) }
+    where
+      same : list_any (is_at (pair_cmp first second (m, n))) (pairs_of things es) ≡ list_any (is_at (second n)) (things old)
+      same = any_of es s ∙ ap (λ o. list_any (is_at (second n)) (things_or_none things o)) h
+
+      go : (b : Bool) → things new ≡ cond b (insert_key second (things old) n) (things old)
+          → pairs_of things (set_value (is_at (first m)) es new)
+          ≡ cond b (insert_key (pair_cmp first second) (pairs_of things es) (m, n)) (pairs_of things es)
+      go true made = sym (insert_there es old new s h made)
+      go false made = same_there es old new h made
+
+  -- a key gets its first thing
+  pub key_first : (es : List (M × E)) (new : E) (added : Bool) → IsStrictlySortedBy first (keys_of es) → lookup (is_at (first m)) es ≡ None
+      → IsKeyFor second [] n true added (things new)
+      → IsKeyFor (pair_cmp first second) (pairs_of things es) (m, n) true added (pairs_of things (insert_entry first es m new))
+  key_first es new added s h key = go added key.made key.was_absent
+    where
+      none : list_any (is_at (pair_cmp first second (m, n))) (pairs_of things es) ≡ false
+      none = any_of es s ∙ ap (λ o. list_any (is_at (second n)) (things_or_none things o)) h
+
+      go : (b : Bool) → things new ≡ cond b (n ∷ []) [] → b ≡ true
+          → IsKeyFor (pair_cmp first second) (pairs_of things es) (m, n) true b (pairs_of things (insert_entry first es m new))
+      go true made is = record { made = sym (insert_first es new s h made); was_absent = sym (ap not none) }
+      go false made is = absurd (true≢false (sym is))
 
 -- ---- the order of pairs
 

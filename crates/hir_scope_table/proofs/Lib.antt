@@ -12,3 +12,4 @@ pub mod Edits
 pub mod Revisions
 pub mod Names
 pub mod ByModule
+pub mod NamesByModule

@@ -1,10 +1,16 @@
 //! The names of modules that globs brought in one namespace.
-ghost use Rattle.std.specs.Prelude.{◌≡◌, [], true, IfOk, OnOk, OnErr, List, Bool, is_some};
+ghost use Rattle.std.specs.Prelude.{◌≡◌, [], true, None, IfOk, OnErr, List, Bool, is_some};
+ghost use Rattle.std.specs.BTreeMap.{is_at};
 ghost use Rattle.std.specs.Cmp.{IsTotalOrder};
+ghost use Rattle.std.specs.Cmp.Lexicographic.{slice_cmp};
 ghost use Rattle.std.specs.List.Sorted.{IsStrictlySortedBy};
+ghost use Rattle.std.specs.Map.{lookup};
+ghost use Rattle.std.specs.Ordering.{nat_cmp};
+ghost use Rattle.std.specs.Set.{remove_key};
+ghost use Rattle.hir_ids.specs.contracts.ids.ModuleIdOrd.TheImpl as module_id;
 ghost use Rattle.hir_scope_table.specs.Entries.{item_at};
-ghost use Rattle.hir_scope_table.specs.Globs.{Place, place_cmp, has_place, with_place, without_place};
-ghost use Rattle.hir_scope_table.specs.Inner.Places.{places_of, AreNamesSorted};
+ghost use Rattle.hir_scope_table.specs.Globs.{Place, place_cmp, has_place, without_place};
+ghost use Rattle.hir_scope_table.specs.Inner.Places.{names_in, places_of, AreNamesSorted};
 ghost use Rattle.hir_scope_table.specs.Inner.Reserved.{IsKeyFor};
 ghost use Rattle.hir_scope_table.specs.Slots.{values_in};
 
@@ -72,11 +78,11 @@ impl Globs {
         ensures ok { IfOk result (λ added. IsKeyFor place_cmp self.old at.now wanted added self.new) }
         ensures err { OnErr result (self.new ≡ self.old) }
     {
-        if !wanted || self.contains(at) {
-            return Ok(false);
+        if wanted {
+            add(self.alloc, &mut self.modules, at)
+        } else {
+            Ok(false)
         }
-        add(self.alloc, &mut self.modules, at)?;
-        Ok(true)
     }
 
     /// Takes out a place that was added.
@@ -115,24 +121,34 @@ fn is_among(modules: &BTreeMap<ModuleId, Names>, at: &(ModuleId, Name)) -> bool
     }
 }
 
-/// Adds a place.
+/// Adds a name, unless it is there; says whether it was added.
+fn add_among(names: &mut Names, name: &Name) -> Result<bool, AllocError>
+    ensures ok { IfOk result (λ added. IsKeyFor (slice_cmp nat_cmp) (names_in names.old) name.now true added (names_in names.new)) }
+    ensures err { OnErr result (names.new ≡ names.old) }
+    ensures sorted { IsStrictlySortedBy (slice_cmp nat_cmp) (names_in names.new) }
+{
+    names.is_kept();
+    if has_value(names, name) {
+        return Ok(false);
+    }
+    names.write(name, None, Some(()), None)?;
+    names.is_kept();
+    Ok(true)
+}
+
+/// Adds a place, unless it is there; says whether it was added.
 fn add(
     alloc: Global,
     modules: &mut BTreeMap<ModuleId, Names>,
     at: &(ModuleId, Name),
-) -> Result<(), AllocError>
+) -> Result<bool, AllocError>
     requires sorted { AreNamesSorted modules.old.entries }
-    ensures ok { OnOk result (places_of modules.new.entries ≡ with_place (places_of modules.old.entries) at.now) }
+    ensures ok { IfOk result (λ added. IsKeyFor place_cmp (places_of modules.old.entries) at.now true added (places_of modules.new.entries)) }
     ensures err { OnErr result (places_of modules.new.entries ≡ places_of modules.old.entries) }
     ensures sorted { AreNamesSorted modules.new.entries }
 {
-    let _ = modules.len();
     match modules.get_mut(&at.0) {
-        Some(names) => {
-            let added = names.write(&at.1, None, Some(()), None);
-            names.is_kept();
-            added
-        }
+        Some(names) => add_among(names, &at.1),
         None => add_first(alloc, modules, at),
     }
 }
@@ -142,17 +158,26 @@ fn add_first(
     alloc: Global,
     modules: &mut BTreeMap<ModuleId, Names>,
     at: &(ModuleId, Name),
-) -> Result<(), AllocError>
+) -> Result<bool, AllocError>
     requires sorted { AreNamesSorted modules.old.entries }
-    ensures ok { OnOk result (places_of modules.new.entries ≡ with_place (places_of modules.old.entries) at.now) }
+    requires absent { lookup (is_at (module_id.ghosts.cmp at.now.0)) modules.old.entries ≡ None }
+    ensures ok { IfOk result (λ added. IsKeyFor place_cmp (places_of modules.old.entries) at.now true added (places_of modules.new.entries)) }
     ensures err { OnErr result (places_of modules.new.entries ≡ places_of modules.old.entries) }
     ensures sorted { AreNamesSorted modules.new.entries }
 {
     let mut names = Names::new(alloc);
-    names.write(&at.1, None, Some(()), None)?;
-    names.is_kept();
+    let added = add_among(&mut names, &at.1)?;
     modules.insert(at.0, names)?;
-    Ok(())
+    Ok(added)
+}
+
+/// Takes out a name.
+fn remove_among(names: &mut Names, name: &Name)
+    ensures value { names_in names.new ≡ remove_key (is_at (slice_cmp nat_cmp name.now)) (names_in names.old) }
+    ensures sorted { IsStrictlySortedBy (slice_cmp nat_cmp) (names_in names.new) }
+{
+    names.remove_value(name);
+    names.is_kept();
 }
 
 /// Takes out a place.
@@ -161,9 +186,8 @@ fn take_out(modules: &mut BTreeMap<ModuleId, Names>, at: &(ModuleId, Name))
     ensures value { places_of modules.new.entries ≡ without_place (places_of modules.old.entries) at.now }
     ensures sorted { AreNamesSorted modules.new.entries }
 {
-    let _ = modules.len();
-    if let Some(names) = modules.get_mut(&at.0) {
-        names.remove_value(&at.1);
-        names.is_kept();
+    match modules.get_mut(&at.0) {
+        Some(names) => remove_among(names, &at.1),
+        None => {}
     }
 }
