@@ -2,7 +2,7 @@
 use Rattle.std.proofs.Common.{◌≡◌, ◌∙◌, ap, sym, subst, refl, ℕ, Bool, true, false, List, [], Option, None, Some, Result, Ok, Err, OnOk, cond}
 use Rattle.std.proofs.Common.{if◌then◌else◌}
 use mathlib.Core.Bool.{true≢false}
-use Rattle.std.specs.Option.{is_some}
+use Rattle.std.specs.Option.{is_some, option_flatten}
 use Rattle.std.specs.declared.cmp.Ordering.{Ordering}
 use Rattle.std.specs.declared.cmp.Ordering.TheVariants.{Less, Equal, Greater}
 use Rattle.std.specs.Ordering.{nat_cmp, is_eq, ordering_then}
@@ -16,7 +16,7 @@ use Rattle.hir_scope_table.proofs.Lookups.{lookup-with_entry}
 use Rattle.hir_glob_imports.specs.Types.{Brought, Key, Slot}
 use Rattle.hir_glob_imports.specs.declared.edge.Key.TheVariants.{Types, Values, Macros, Unnamed}
 use Rattle.hir_glob_imports.specs.contracts.edge.KeyOrd.TheImpl as key_order
-use Rattle.hir_glob_imports.specs.ByName.{BroughtNames, joined, brought_among, brought_in, brought_by}
+use Rattle.hir_glob_imports.specs.ByName.{BroughtNames, brought_among, brought_in, brought_by}
 use Rattle.hir_glob_imports.specs.Keys.{is_unnamed, same_slot}
 use Rattle.hir_glob_imports.specs.Rules.{BroughtBy, with_brought}
 use Rattle.hir_glob_imports.proofs.Exact.{exact_nat, exact_slot}
@@ -25,35 +25,35 @@ use Rattle.hir_glob_imports.proofs.Exact.{exact_nat, exact_slot}
 
 -- a name of one namespace is written
 written_at : (old : List (List ℕ × Option Brought)) (name : List ℕ) (by : Option Brought) (q : List ℕ)
-    → joined (item_at (with_some_entry (slice_cmp nat_cmp) old (named name (Some by))) q)
-    ≡ (if is_eq (slice_cmp nat_cmp name q) then by else joined (item_at old q))
-written_at old name by q = ap joined (lookup-with_entry (slice_cmp nat_cmp) nat_list_cmp_total old name by q) ∙ go (is_eq (slice_cmp nat_cmp name q))
+    → option_flatten (item_at (with_some_entry (slice_cmp nat_cmp) old (named name (Some by))) q)
+    ≡ (if is_eq (slice_cmp nat_cmp name q) then by else option_flatten (item_at old q))
+written_at old name by q = ap option_flatten (lookup-with_entry (slice_cmp nat_cmp) nat_list_cmp_total old name by q) ∙ go (is_eq (slice_cmp nat_cmp name q))
   where
-    go : (b : Bool) → joined (cond b (Some by) (item_at old q)) ≡ (if b then by else joined (item_at old q))
+    go : (b : Bool) → option_flatten (cond b (Some by) (item_at old q)) ≡ (if b then by else option_flatten (item_at old q))
     go true = refl
     go false = refl
 
 module _ (old new : BroughtNames) (name : List ℕ) (by : Option Brought) where
   type_written : types_in new ≡ with_some_entry (slice_cmp nat_cmp) (types_in old) (named name (Some by)) → values_in new ≡ values_in old
       → macros_in new ≡ macros_in old → (q : Key) → brought_among new q ≡ brought_by (Types name) by (brought_among old) q
-  type_written t v m (Types q) = ap (λ es. joined (item_at es q)) t ∙ written_at (types_in old) name by q
-  type_written t v m (Values q) = ap (λ es. joined (item_at es q)) v
-  type_written t v m (Macros q) = ap (λ es. joined (item_at es q)) m
+  type_written t v m (Types q) = ap (λ es. option_flatten (item_at es q)) t ∙ written_at (types_in old) name by q
+  type_written t v m (Values q) = ap (λ es. option_flatten (item_at es q)) v
+  type_written t v m (Macros q) = ap (λ es. option_flatten (item_at es q)) m
   type_written t v m (Unnamed id) = refl
 
   value_written : types_in new ≡ types_in old → values_in new ≡ with_some_entry (slice_cmp nat_cmp) (values_in old) (named name (Some by))
       → macros_in new ≡ macros_in old → (q : Key) → brought_among new q ≡ brought_by (Values name) by (brought_among old) q
-  value_written t v m (Types q) = ap (λ es. joined (item_at es q)) t
-  value_written t v m (Values q) = ap (λ es. joined (item_at es q)) v ∙ written_at (values_in old) name by q
-  value_written t v m (Macros q) = ap (λ es. joined (item_at es q)) m
+  value_written t v m (Types q) = ap (λ es. option_flatten (item_at es q)) t
+  value_written t v m (Values q) = ap (λ es. option_flatten (item_at es q)) v ∙ written_at (values_in old) name by q
+  value_written t v m (Macros q) = ap (λ es. option_flatten (item_at es q)) m
   value_written t v m (Unnamed id) = refl
 
   macro_written : types_in new ≡ types_in old → values_in new ≡ values_in old
       → macros_in new ≡ with_some_entry (slice_cmp nat_cmp) (macros_in old) (named name (Some by)) → (q : Key)
       → brought_among new q ≡ brought_by (Macros name) by (brought_among old) q
-  macro_written t v m (Types q) = ap (λ es. joined (item_at es q)) t
-  macro_written t v m (Values q) = ap (λ es. joined (item_at es q)) v
-  macro_written t v m (Macros q) = ap (λ es. joined (item_at es q)) m ∙ written_at (macros_in old) name by q
+  macro_written t v m (Types q) = ap (λ es. option_flatten (item_at es q)) t
+  macro_written t v m (Values q) = ap (λ es. option_flatten (item_at es q)) v
+  macro_written t v m (Macros q) = ap (λ es. option_flatten (item_at es q)) m ∙ written_at (macros_in old) name by q
   macro_written t v m (Unnamed id) = refl
 
   pub type_answer : {R E : Type 0} (r : Result R E) → OnOk r (types_in new ≡ with_some_entry (slice_cmp nat_cmp) (types_in old) (named name (Some by)))
@@ -107,11 +107,18 @@ module _ (old new : List (ℕ × BroughtNames)) (s : Slot) (by : Option Brought)
           ∙ ap (λ x. if is_eq (key_order.ghosts.cmp s.key q.key) then by else x) here
 
 -- a module to which nothing was brought
-pub nothing_among : (q : Key) → brought_among [] q ≡ None
+nothing_among : (q : Key) → brought_among [] q ≡ brought_in None q
 nothing_among (Types name) = refl
 nothing_among (Values name) = refl
 nothing_among (Macros name) = refl
 nothing_among (Unnamed id) = refl
+
+-- the first name of a module is written
+pub first_written : (old new : BroughtNames) (key : Key) (by : Option Brought) → old ≡ []
+    → ((q : Key) → brought_among new q ≡ brought_by key by (brought_among old) q) → (q : Key) → brought_among new q ≡ brought_by key by (brought_in None) q
+first_written old new key by empty written q =
+    written q ∙ ap (λ (names : BroughtNames). brought_by key by (brought_among names) q) empty
+    ∙ ap (λ (f : Key → Option Brought). brought_by key by f q) (λ i k. nothing_among k i)
 
 -- what is brought has a name
 pub brought_named : (o : Option BroughtNames) (key : Key) → is_some (brought_in o key) ≡ true → is_unnamed key ≡ false

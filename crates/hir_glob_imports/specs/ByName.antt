@@ -1,5 +1,6 @@
 -- Which edge brought what stands in a slot?
 use Rattle.std.specs.Prelude.{ℕ, List, Option, None, Some, if◌then◌else◌}
+use Rattle.std.specs.Option.{option_flatten}
 use Rattle.std.specs.Ordering.{is_eq}
 use Rattle.hir_scope_table.specs.Entries.{item_at}
 use Rattle.hir_scope_table.specs.Slots.{NamedSlots, types_in, values_in, macros_in}
@@ -12,18 +13,14 @@ use Rattle.hir_glob_imports.specs.contracts.edge.KeyOrd.TheImpl as key_order
 abbrev pub BroughtNames : Type 0
 BroughtNames = NamedSlots (Option Brought) (Option Brought) (Option Brought)
 
-abbrev pub joined : {X : Type 0} → Option (Option X) → Option X
-joined None = None
-joined (Some x) = x
-
 abbrev pub type_among : BroughtNames → List ℕ → Option Brought
-type_among names name = joined (item_at (types_in names) name)
+type_among names name = option_flatten (item_at (types_in names) name)
 
 abbrev pub value_among : BroughtNames → List ℕ → Option Brought
-value_among names name = joined (item_at (values_in names) name)
+value_among names name = option_flatten (item_at (values_in names) name)
 
 abbrev pub macro_among : BroughtNames → List ℕ → Option Brought
-macro_among names name = joined (item_at (macros_in names) name)
+macro_among names name = option_flatten (item_at (macros_in names) name)
 
 -- what brought what stands at a key of a module; of a trait without a name it isn't kept
 abbrev pub brought_among : BroughtNames → Key → Option Brought

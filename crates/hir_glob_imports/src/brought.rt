@@ -2,12 +2,11 @@
 ghost use Rattle.std.specs.Prelude.{◌≡◌, false, None, OnOk};
 ghost use Rattle.std.specs.BTreeMap.{is_at};
 ghost use Rattle.std.specs.Map.{lookup};
-ghost use Rattle.std.specs.Option.{option_copied};
 ghost use Rattle.std.specs.Ordering.{nat_cmp};
 ghost use Rattle.hir_glob_imports.specs.declared.edge.Key.{Key};
 ghost use Rattle.hir_glob_imports.specs.declared.edge.Slot.{Slot};
 ghost use Rattle.hir_glob_imports.specs.Keys.{is_unnamed};
-ghost use Rattle.hir_glob_imports.specs.ByName.{brought_among, brought_in, brought_by, joined, type_among, value_among, macro_among};
+ghost use Rattle.hir_glob_imports.specs.ByName.{brought_among, brought_in, brought_by, type_among, value_among, macro_among};
 ghost use Rattle.hir_glob_imports.specs.Rules.{with_brought};
 
 use crate::edge::{Brought, Key, Slot};
@@ -19,20 +18,11 @@ use std::collections::BTreeMap;
 /// By name and namespace, what brought what stands in a module. Where a name was bound explicitly since, there is none.
 pub(crate) type BroughtNames = EntryList<Option<Brought>, Option<Brought>, Option<Brought>>;
 
-fn joined(by: Option<&Option<Brought>>) -> Option<Brought>
-    ensures value { result ≡ joined (option_copied by.entry) }
-{
-    match by {
-        Some(by) => *by,
-        None => None,
-    }
-}
-
 fn type_among(names: &BroughtNames, name: &Name) -> Option<Brought>
     ensures value { result ≡ type_among names.now name.now }
 {
     match names.get(name) {
-        Some(entry) => joined(entry.types()),
+        Some(entry) => entry.types().copied().flatten(),
         None => None,
     }
 }
@@ -41,7 +31,7 @@ fn value_among(names: &BroughtNames, name: &Name) -> Option<Brought>
     ensures value { result ≡ value_among names.now name.now }
 {
     match names.get(name) {
-        Some(entry) => joined(entry.values()),
+        Some(entry) => entry.values().copied().flatten(),
         None => None,
     }
 }
@@ -50,7 +40,7 @@ fn macro_among(names: &BroughtNames, name: &Name) -> Option<Brought>
     ensures value { result ≡ macro_among names.now name.now }
 {
     match names.get(name) {
-        Some(entry) => joined(entry.macros()),
+        Some(entry) => entry.macros().copied().flatten(),
         None => None,
     }
 }
