@@ -1,5 +1,5 @@
 -- What brought what stands in a slot, once one slot is written.
-use Rattle.std.proofs.Common.{◌≡◌, ◌∙◌, ap, sym, subst, refl, ℕ, Bool, true, false, List, [], Option, None, Some, Result, Ok, Err, OnOk, cond}
+use Rattle.std.proofs.Common.{◌≡◌, ◌∙◌, ap, sym, refl, ℕ, Bool, true, false, List, [], Option, None, Some, Result, Ok, Err, OnOk, cond}
 use Rattle.std.proofs.Common.{if◌then◌else◌}
 use mathlib.Core.Bool.{true≢false}
 use Rattle.std.specs.Option.{is_some, option_flatten}

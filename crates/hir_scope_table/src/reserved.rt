@@ -1,5 +1,5 @@
 //! Entries that are added to maps before anything is written.
-ghost use Rattle.std.specs.Prelude.{◌≡◌, Bool, true, false, List, Some, OnErr, IfOk};
+ghost use Rattle.std.specs.Prelude.{◌≡◌, true, false, List, Some, OnErr, IfOk};
 ghost use Rattle.hir_scope_table.specs.Entries.{with_some_entry};
 ghost use Rattle.hir_scope_table.specs.Inner.Reserved.{IsEntryFor};
 

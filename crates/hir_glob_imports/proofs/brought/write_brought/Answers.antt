@@ -1,9 +1,7 @@
 use Rattle.std.proofs.Common.{ap, sym, subst, is_some, ℕ, Some, OnOk}
-use Rattle.std.specs.BTreeMap.{BTreeMap, is_at}
-use Rattle.std.specs.Map.{lookup}
-use Rattle.std.specs.Ordering.{nat_cmp}
+use Rattle.std.specs.BTreeMap.{BTreeMap}
 use Rattle.std.proofs.lemmas.Result.{on_ok_weaker}
-use Rattle.hir_glob_imports.specs.ByName.{BroughtNames, brought_in}
+use Rattle.hir_glob_imports.specs.ByName.{BroughtNames}
 use Rattle.hir_glob_imports.specs.Rules.{with_brought}
 use Rattle.hir_glob_imports.specs.Types.{Slot}
 use Rattle.hir_glob_imports.proofs.ByName.{by_module, slot_written}

@@ -1,5 +1,5 @@
 -- One item less is left in each turn.
-use Rattle.std.proofs.Common.{◌≡◌, sym, subst, rules, ℕ, List, [], ◌∷◌}
+use Rattle.std.proofs.Common.{◌≡◌, sym, subst, rules, ℕ, List, []}
 use Rattle.std.specs.List.{AllByRecursion}
 use Rattle.hir_nameres.specs.HirPerNs.PerNs.{Item}
 use Rattle.hir_import_rules.specs.Lasting.{IsPlaced}

@@ -1,4 +1,4 @@
-use Rattle.std.proofs.Common.{◌≡◌, ◌∙◌, ap, sym, subst, ℕ, List, Some, None}
+use Rattle.std.proofs.Common.{◌∙◌, ap, sym, subst, List}
 use Rattle.std.specs.BTreeMap.{BTreeMap, is_at}
 use Rattle.std.specs.Cmp.Lexicographic.{slice_cmp}
 use Rattle.std.specs.List.Sorted.{IsStrictlySortedBy}
@@ -6,7 +6,6 @@ use Rattle.std.specs.Ordering.{nat_cmp}
 use Rattle.hir_ids.specs.contracts.ids.ModuleIdOrd.TheImpl as module_id
 use Rattle.hir_ids.specs.contracts.ids.ModuleIdOrd.TheImpl.Laws.{total-law as module_total}
 use Rattle.hir_ids.specs.declared.ids.ModuleId.{ModuleId}
-use Rattle.hir_scope_table.specs.Globs.{without_place}
 use Rattle.hir_scope_table.specs.Inner.Places.{Names, names_in, places_of, AreNamesSorted}
 use Rattle.hir_scope_table.proofs.ByModule.{all_set, remove_none, remove_there}
 use Rattle.hir_scope_table.proofs.NamesByModule.{exact_module}

@@ -1,11 +1,10 @@
 -- What was brought has a name, and where nothing was the slot stays as it is.
-use Rattle.std.proofs.Common.{◌∙◌, ap, sym, subst, is_some}
+use Rattle.std.proofs.Common.{◌∙◌, ap, sym, is_some}
 use Rattle.std.specs.Map.{lookup}
 use Rattle.std.specs.BTreeMap.{is_at}
 use Rattle.std.specs.Ordering.{nat_cmp}
-use Rattle.std.proofs.lemmas.Result.{on_ok_weaker}
 use Rattle.hir_glob_imports.specs.Waves.{brought_of}
-use Rattle.hir_glob_imports.proofs.ByName.{brought_named, by_module, forgotten_still}
+use Rattle.hir_glob_imports.proofs.ByName.{brought_named, forgotten_still}
 use Rattle.hir_glob_imports.proofs.glob_imports.GlobImports.forget.Goals as goal
 
 pub write_brought-requires-clause-named : goal.write_brought-requires-clause-named
