@@ -1,4 +1,4 @@
-use Rattle.std.proofs.Common.{◌≡◌, ◌∙◌, ap, sym, subst, true, List, Some, IfOk}
+use Rattle.std.proofs.Common.{◌≡◌, ◌∙◌, ap, sym, subst, true, List, Some, IfOk, OnErr}
 use Rattle.std.specs.BTreeMap.{BTreeMap, is_at}
 use Rattle.std.specs.Cmp.Lexicographic.{slice_cmp}
 use Rattle.std.specs.List.Sorted.{IsStrictlySortedBy}
@@ -48,3 +48,8 @@ pub returns-in-None-clause-ok : goal.returns-in-None-clause-ok
 returns-in-None-clause-ok c =
     subst (λ (m : BTreeMap ModuleId Names). IfOk c.add_first.result (λ added. IsKeyFor place_cmp (places_of m.entries) c.args.at.now true added
     (places_of c.add_first.new.modules.entries))) c.get_mut.follows.holds-at-none c.add_first.ensures.ok
+
+pub returns-in-None-clause-err : goal.returns-in-None-clause-err
+returns-in-None-clause-err c =
+    subst (λ (m : BTreeMap ModuleId Names). OnErr c.add_first.result (places_of c.add_first.new.modules.entries ≡ places_of m.entries))
+    c.get_mut.follows.holds-at-none c.add_first.ensures.err

@@ -12,13 +12,13 @@ returns-then-has_value-clause-ok c = name_there c.args.names.now c.args.name.now
 pub returns-then-has_value-clause-sorted : goal.returns-then-has_value-clause-sorted
 returns-then-has_value-clause-sorted c = sorted_names c.args.names.now c.is_kept.ensures.ascends
 
-pub returns-in_ok-write-clause-ok : goal.returns-in_ok-write-clause-ok
-returns-in_ok-write-clause-ok c =
+pub returns-clause-ok : goal.returns-clause-ok
+returns-clause-ok c =
     name_added c.args.names.now c.write.new.self c.args.name.now c.is_kept.ensures.ascends
     (sym c.has_value.ensures.value ∙ c.if-has_value.false) c.in_ok-write.ensures.values
 
-pub returns-in_ok-write-clause-sorted : goal.returns-in_ok-write-clause-sorted
-returns-in_ok-write-clause-sorted c = sorted_names c.write.new.self c.is_kept-2.ensures.ascends
+pub returns-clause-sorted : goal.returns-clause-sorted
+returns-clause-sorted c = sorted_names c.write.new.self c.is_kept-2.ensures.ascends
 
 pub returns-in_err-write-clause-sorted : goal.returns-in_err-write-clause-sorted
 returns-in_err-write-clause-sorted c =

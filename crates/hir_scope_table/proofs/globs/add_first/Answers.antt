@@ -12,8 +12,8 @@ use Rattle.hir_scope_table.proofs.ByModule.{all_insert, key_first}
 use Rattle.hir_scope_table.proofs.NamesByModule.{exact_module}
 use Rattle.hir_scope_table.proofs.globs.add_first.Goals as goal
 
-pub returns-in_ok-insert-clause-ok : goal.returns-in_ok-insert-clause-ok
-returns-in_ok-insert-clause-ok c =
+pub returns-clause-ok : goal.returns-clause-ok
+returns-clause-ok c =
     let es = c.args.modules.now.entries in
     let at = c.args.at.now in
     let new = c.add_among.new.names in
@@ -24,8 +24,8 @@ returns-in_ok-insert-clause-ok c =
     (subst (λ (names : Names). IsKeyFor (slice_cmp nat_cmp) (names_in names) at.1 true added (names_in new)) c.new-names.ensures.value
     c.in_ok-added.ensures.ok))
 
-pub returns-in_ok-insert-clause-sorted : goal.returns-in_ok-insert-clause-sorted
-returns-in_ok-insert-clause-sorted c =
+pub returns-clause-sorted : goal.returns-clause-sorted
+returns-clause-sorted c =
     subst (λ (fs : List (ModuleId × Names)). AreNamesSorted fs) (sym c.in_ok-insert.ensures.entries)
     (all_insert (λ (names : Names). IsStrictlySortedBy (slice_cmp nat_cmp) (names_in names)) module_id.ghosts.cmp c.args.modules.now.entries c.args.at.now.0
     c.add_among.new.names c.add_among.ensures.sorted c.requires.sorted)
