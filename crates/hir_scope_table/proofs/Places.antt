@@ -1,12 +1,12 @@
 -- What is known of the place where a key belongs among entries in order.
-use Rattle.std.proofs.Common.{◌≡◌, ◌∙◌, ap, sym, subst, refl, ℕ, zero, suc, ◌+◌, ◌*◌, ◌-◌, ◌/◌, ◌^◌, ◌<◌, ◌≤◌, true, false, Bool, List, [], ◌∷◌, Option, None}
+use Rattle.std.proofs.Common.{◌≡◌, ◌∙◌, ap, sym, subst, refl, ℕ, zero, suc, ◌*◌, ◌-◌, ◌/◌, ◌^◌, ◌<◌, ◌≤◌, true, false, Bool, List, [], ◌∷◌, Option, None}
 use Rattle.std.proofs.Common.{Some, cond, length, get_or, arith, option_map, pow-suc, mul_assoc}
 use mathlib.Core.Bool.{true≢false}
 use Rattle.std.specs.Option.{is_some}
 use Rattle.std.specs.declared.cmp.Ordering.{Ordering}
 use Rattle.std.specs.declared.cmp.Ordering.TheVariants.{Less, Equal, Greater}
 use Rattle.std.specs.Cmp.{IsTotalOrder}
-use Rattle.std.specs.Ordering.{is_eq, is_lt, match_ordering, ordering_reverse}
+use Rattle.std.specs.Ordering.{is_eq, is_lt, match_ordering}
 use Rattle.std.specs.BTreeMap.{is_at, insert_entry}
 use Rattle.std.specs.List.{AllByRecursion, insert, remove, slice_get, slice_set}
 use Rattle.std.specs.List.Sorted.{IsStrictlySortedBy}
@@ -202,3 +202,16 @@ has_halved n left less c some half h =
 
 pub counted_one_more : (n left c : ℕ) → 0 < left → HasHalved n left c → suc c ≤ binary_digits n
 counted_one_more n left c some h = digits_from_power n n c (omega arith) (power_within n left c some h)
+
+-- a greater number hasn't fewer digits
+digits_ascend : (a b n m : ℕ) → n ≤ a → m ≤ b → n ≤ m → digits_upto a n ≤ digits_upto b m
+digits_ascend zero b n m inside within less = omega arith
+digits_ascend (suc a) b zero m inside within less = omega arith
+digits_ascend (suc a) zero (suc n) m inside within less = absurd (omega (arith, within, less))
+digits_ascend (suc a) (suc b) (suc n) zero inside within less = absurd (omega (arith, less))
+digits_ascend (suc a) (suc b) (suc n) (suc m) inside within less =
+    let rest = digits_ascend a b (suc n / 2) (suc m / 2) (omega (arith, inside)) (omega (arith, within)) (omega (arith, less)) in
+    omega (arith, rest)
+
+pub fewer_digits : (n m : ℕ) → n ≤ m → binary_digits n ≤ binary_digits m
+fewer_digits n m less = digits_ascend n m n m (omega arith) (omega arith) less

@@ -130,6 +130,7 @@ fn place_behind<T, V, M>(
     requires above { IsAboveFirst (slice_cmp nat_cmp name.now) entries.now from }
     requires few { probe ≤ 1 }
     ensures belongs { BelongsAt (slice_cmp nat_cmp name.now) entries.now result.at result.found }
+    ensures count { result.probe ≤ probe + 1 + binary_digits (length entries.now) }
 {
     let mut probe = probe;
     if from == entries.len() {
@@ -161,6 +162,7 @@ fn place_before<T, V, M>(entries: &[Entry<T, V, M>], name: &Name, to: usize, pro
     requires below { ComparesAt (slice_cmp nat_cmp name.now) entries.now to Less }
     requires few { probe ≤ 1 }
     ensures belongs { BelongsAt (slice_cmp nat_cmp name.now) entries.now result.at result.found }
+    ensures count { result.probe ≤ probe + 1 + binary_digits (length entries.now) }
 {
     let mut probe = probe;
     if to == 0 {
@@ -190,6 +192,7 @@ fn place_before<T, V, M>(entries: &[Entry<T, V, M>], name: &Name, to: usize, pro
 fn place_near<T, V, M>(entries: &[Entry<T, V, M>], name: &Name, near: usize) -> Place
     requires kept { IsKept entries.now }
     ensures belongs { BelongsAt (slice_cmp nat_cmp name.now) entries.now result.at result.found }
+    ensures count { result.probe ≤ 2 + binary_digits (length entries.now) }
 {
     if near >= entries.len() {
         return place_among(entries, name);
@@ -214,6 +217,7 @@ pub(crate) fn place_of<T, V, M>(
 ) -> Place
     requires kept { IsKept entries.now.items }
     ensures belongs { BelongsAt (slice_cmp nat_cmp name.now) entries.now.items result.at result.found }
+    ensures count { result.probe ≤ 2 + binary_digits (length entries.now.items) }
 {
     let place = place_near(entries.as_slice(), name, near.get());
     near.set(place.at);

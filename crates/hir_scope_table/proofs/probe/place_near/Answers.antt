@@ -1,4 +1,4 @@
-use Rattle.std.proofs.Common.{◌≡◌, ◌∙◌, ap, sym, subst, refl, ◌+◌, ◌-◌, ◌<◌, ◌≤◌, length, arith, suc}
+use Rattle.std.proofs.Common.{◌≡◌, ◌∙◌, ap, sym, subst, refl, ◌+◌, ◌-◌, ◌<◌, length, arith, suc}
 use Rattle.std.specs.Ordering.{nat_cmp}
 use Rattle.std.specs.Cmp.Lexicographic.{slice_cmp}
 use Rattle.std.specs.declared.cmp.Ordering.TheVariants.{Less, Equal, Greater}
@@ -13,19 +13,16 @@ place_before-requires-clause-below g c =
     compares_at compare c.args.entries.now c.args.near c.index-entries-near.result Less c.index-entries-near.is
     (ap compare (sym c.name.ensures.value) ∙ sym c.in-Less.ensures.value)
 
-pub returns-in-Equal : goal.returns-in-Equal
-returns-in-Equal g c =
+pub returns-in-Equal-clause-belongs : goal.returns-in-Equal-clause-belongs
+returns-in-Equal-clause-belongs g c =
     let es = c.args.entries.now in
     let compare = slice_cmp nat_cmp c.args.name.now in
     let inside : c.args.near < length es = omega arith in
     let is = ap compare (sym c.name.ensures.value) ∙ sym c.in-Equal.ensures.value in
-    record {
-      belongs =
-          belongs_here compare es c.args.near inside
-          (above_at (slice_cmp nat_cmp) nat_list_cmp_total c.args.name.now es c.args.near c.index-entries-near.result Equal inside c.requires.kept.ascends
-          c.index-entries-near.is is refl)
-          (compares_at compare es c.args.near c.index-entries-near.result Equal c.index-entries-near.is is);
-    }
+    belongs_here compare es c.args.near inside
+    (above_at (slice_cmp nat_cmp) nat_list_cmp_total c.args.name.now es c.args.near c.index-entries-near.result Equal inside c.requires.kept.ascends
+    c.index-entries-near.is is refl)
+    (compares_at compare es c.args.near c.index-entries-near.result Equal c.index-entries-near.is is)
 
 pub place_behind-requires-clause-above : goal.place_behind-requires-clause-above
 place_behind-requires-clause-above g c =
