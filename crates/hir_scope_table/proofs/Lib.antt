@@ -13,3 +13,4 @@ pub mod Revisions
 pub mod Names
 pub mod ByModule
 pub mod NamesByModule
+pub mod GapLists
