@@ -17,7 +17,7 @@ module _ {X : Type 0} where
 
   -- behind the first half
   insert_behind : (xs ys : List X) (k : ℕ) (x : X) → xs ++ insert ys k x ≡ insert (xs ++ ys) (length xs + k) x
-  insert_behind [] ys k x = refl
+  insert_behind [] ys k x = let none : k ≡ 0 + k = omega arith in ap (λ i. insert ys i x) none
   insert_behind (y ∷ xs) ys k x =
       let next : suc (length xs + k) ≡ length (y ∷ xs) + k = omega arith in
       ap (λ zs. y ∷ zs) (insert_behind xs ys k x) ∙ ap (λ i. insert (y ∷ (xs ++ ys)) i x) next
@@ -52,3 +52,48 @@ module _ {X : Type 0} where
   -- the last element of one half goes to the other
   pub moved_forth : (xs ys : List X) (x : X) → xs ++ reverse (ys ++ x ∷ []) ≡ (xs ++ x ∷ []) ++ reverse ys
   moved_forth xs ys x = ap (λ zs. xs ++ zs) (turned_push ys x) ∙ sym (append_assoc xs (x ∷ []) (reverse ys))
+
+  -- the same where one is taken out
+  pub remove_before : (xs ys : List X) (i : ℕ) → i < length xs → remove xs i ++ ys ≡ remove (xs ++ ys) i
+  remove_before [] ys i within = absurd (omega (arith, within))
+  remove_before (x ∷ xs) ys zero within = refl
+  remove_before (x ∷ xs) ys (suc i) within = ap (λ zs. x ∷ zs) (remove_before xs ys i (omega (arith, within)))
+
+  remove_between : (xs ys : List X) (y : X) → remove (xs ++ y ∷ ys) (length xs) ≡ xs ++ ys
+  remove_between [] ys y = refl
+  remove_between (x ∷ xs) ys y = ap (λ zs. x ∷ zs) (remove_between xs ys y)
+
+  remove_behind : (xs ys : List X) (k : ℕ) → xs ++ remove ys k ≡ remove (xs ++ ys) (length xs + k)
+  remove_behind [] ys k = let none : k ≡ 0 + k = omega arith in ap (remove ys) none
+  remove_behind (x ∷ xs) ys k =
+      let next : suc (length xs + k) ≡ length (x ∷ xs) + k = omega arith in
+      ap (λ zs. x ∷ zs) (remove_behind xs ys k) ∙ ap (remove (x ∷ (xs ++ ys))) next
+
+  split_at : (ys : List X) (j : ℕ) → j < length ys → (y : X) × (take j ys ++ y ∷ drop (suc j) ys ≡ ys)
+  split_at [] j within = absurd (omega (arith, within))
+  split_at (y ∷ ys) zero within = (y, refl)
+  split_at (y ∷ ys) (suc j) within = let rest = split_at ys j (omega (arith, within)) in (rest.0, ap (λ zs. y ∷ zs) rest.1)
+
+  turned_remove : (ys : List X) (j : ℕ) → j < length ys → reverse (remove ys j) ≡ remove (reverse ys) (length ys - 1 - j)
+  turned_remove ys j within =
+      let front = take j ys in
+      let back = drop (suc j) ys in
+      let parts = split_at ys j within in
+      let head : reverse (parts.0 ∷ back) ≡ reverse back ++ parts.0 ∷ [] = reverse-append (parts.0 ∷ []) back in
+      let whole : reverse back ++ parts.0 ∷ reverse front ≡ reverse ys =
+      sym (append_assoc (reverse back) (parts.0 ∷ []) (reverse front)) ∙ ap (λ zs. zs ++ reverse front) (sym head)
+      ∙ sym (reverse-append front (parts.0 ∷ back)) ∙ ap reverse parts.1 in
+      let dropped = length-drop (suc j) ys in
+      let many : length (reverse back) ≡ length ys - 1 - j = length-reverse back ∙ omega (arith, dropped) in
+      reverse-append front back
+      ∙ sym (remove_between (reverse back) (reverse front) parts.0)
+      ∙ (λ i. remove (whole i) (many i))
+
+  pub removed_behind : (xs ys : List X) (i : ℕ) → length xs ≤ i → i < length xs + length ys
+      → xs ++ reverse (remove ys (length ys - 1 - (i - length xs))) ≡ remove (xs ++ reverse ys) i
+  removed_behind xs ys i from within =
+      let k : length ys - 1 - (length ys - 1 - (i - length xs)) ≡ i - length xs = omega (arith, from, within) in
+      let at : length xs + (i - length xs) ≡ i = omega (arith, from) in
+      ap (λ zs. xs ++ zs) (turned_remove ys (length ys - 1 - (i - length xs)) (omega (arith, from, within)) ∙ ap (remove (reverse ys)) k)
+      ∙ remove_behind xs (reverse ys) (i - length xs)
+      ∙ ap (remove (xs ++ reverse ys)) at

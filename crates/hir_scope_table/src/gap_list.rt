@@ -1,5 +1,5 @@
 //! A list in which elements that are put in side by side move no others.
-ghost use Rattle.std.specs.Prelude.{◌≡◌, ◌+◌, ◌<◌, ◌≤◌, ◌++◌, [], length, reverse, slice_index_or, OnOk, OnErr};
+ghost use Rattle.std.specs.Prelude.{◌≡◌, ◌+◌, ◌-◌, ◌<◌, ◌≤◌, ◌++◌, [], length, reverse, slice_index_or, OnOk, OnErr};
 ghost use Rattle.std.specs.List.{insert, remove};
 
 use std::alloc::{AllocError, Global};
@@ -33,6 +33,7 @@ fn is_beside(at: usize, last: usize) -> bool {
 }
 
 /// The last element of a list goes to the end of another one.
+#[tactic(auto, using(crate::proofs::GapLists::moved_forth))]
 fn move_last<E: Drop>(from: &mut Vec<E>, onto: &mut Vec<E>) -> Result<(), AllocError>
     ensures forth { from.new.items ++ reverse onto.new.items ≡ from.old.items ++ reverse onto.old.items }
     ensures back { onto.new.items ++ reverse from.new.items ≡ onto.old.items ++ reverse from.old.items }
