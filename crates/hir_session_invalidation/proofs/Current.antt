@@ -1,5 +1,6 @@
 -- What is kept of sources stays what they have.
-use Rattle.std.proofs.Common.{◌≡◌, ◌∙◌, ℕ, ap, sym, subst, refl, nat_eq, Bool, true, false, ◌&&◌, if◌then◌else◌, List, Option, Some, None}
+use Rattle.std.proofs.Common.{◌≡◌, ◌∙◌, ℕ, ap, sym, subst, refl, nat_eq, Bool, true, false, ◌&&◌, if◌then◌else◌, List, Option, Some, None, option_map, Result, Ok, Err, OnOk, OnErr}
+use Rattle.std.proofs.lemmas.Bool.{eqb-true}
 use Rattle.std.specs.BTreeMap.{is_at}
 use Rattle.std.specs.Cmp.Lexicographic.{slice_cmp}
 use Rattle.std.specs.Cmp.{first_so, second_so}
@@ -13,10 +14,11 @@ use Rattle.hir_session_state.specs.HirItemTree.SourceTree.{SourceTreeValue, sour
 use Rattle.hir_session_state.specs.HirTables.SourcePlaces.{SourcePlaceValue, block, expansion, file}
 use Rattle.hir_session_state.specs.HirCollectorRules.Workspace.{ConfigValue, Workspace}
 use Rattle.hir_session_sources.specs.declared.source_trees.SourceTrees.{SourceTrees}
-use Rattle.hir_session_state.specs.Crates.{CrateValue, with_config}
+use Rattle.hir_session_state.specs.Crates.{CrateValue, crate_in, with_config}
 use Rattle.hir_session_state.specs.Entries.{expansion_cmp}
 use Rattle.hir_session_state.specs.SourceEdits.{SourceEditValue, edited, place_of, source_by}
 use Rattle.hir_session_state.specs.SourceTable.{SourceTable, front_in, source_at, tree_under, workspace_in}
+use Rattle.hir_session_sources.specs.LoweredTrees.{AreLoweredAnew, tree_for}
 use Rattle.hir_session_sources.specs.SourceTrees.{CrateTrees, AreCurrent, AreTreesOf, is_kept_at, is_place, tree_by, tree_in}
 use Rattle.hir_session_sources.proofs.BlockLemmas.{exact_blocks}
 use Rattle.hir_session_sources.proofs.Changing.{equal_crate, same_crate}
@@ -114,16 +116,40 @@ dropped_same w at old new are gone others = record {
       (λ off. are.each p c t (sym (others p c off) ∙ is));
 }
 
--- nothing is kept under a crate that is handed in with other data
-pub renewed_current : (crates : List CrateValue) (k : ℕ) (config : ConfigValue) (table : SourceTable) (old new : SourceTrees)
-    → AreCurrent (workspace_in crates table) old → ((place : SourcePlaceValue) → tree_in new place (record { 0 = k }) ≡ None)
-    → ((place : SourcePlaceValue) (c : Crate) (t : SourceTreeValue) → tree_in new place c ≡ Some t → tree_in old place c ≡ Some t)
+anew_is : {A B : Type 0} (x y : A) (o : Option B) → option_map (λ _. x) o ≡ Some y → y ≡ x
+anew_is x y None is = none_some None y refl is
+anew_is x y (Some z) is = sym (one_value is)
+
+-- what is kept under a crate that is handed in with other data is lowered anew
+pub lowered_current : (crates : List CrateValue) (k : ℕ) (config : ConfigValue) (table : SourceTable) (old new : SourceTrees)
+    → AreCurrent (workspace_in crates table) old → AreLoweredAnew (crate_in (with_config crates k config) k) table (record { 0 = k }) old new
     → AreCurrent (workspace_in (with_config crates k config) table) new
-renewed_current crates k config table old new are gone kept = record {
+lowered_current crates k config table old new are anew = record {
   each = λ place krate t is. on_same krate.0 k
       (λ own. let it : krate ≡ record { 0 = k } = λ i. record { 0 = own i } in
-      none_some (tree_in new place krate) t (ap (λ (c : Crate). tree_in new place c) it ∙ gone place) is)
-      (λ other. are.each place krate t (kept place krate t is)
+      anew_is (tree_for (crate_in (with_config crates k config) k) table place) t (tree_in old place (record { 0 = k }))
+      (sym (anew.own place) ∙ ap (λ (c : Crate). tree_in new place c) (sym it) ∙ is)
+      ∙ ap (λ (n : ℕ). tree_under (with_config crates k config) n place (source_at table place)) (sym own))
+      (λ other.
+      let apart : nat_eq k krate.0 ≡ false = on_bool (nat_eq k krate.0) (λ on. absurd (other (sym (eqb-true k krate.0 on)))) (λ off. off) in
+      are.each place krate t (sym (anew.others place krate apart) ∙ is)
       ∙ ap (λ (c : CrateValue). source_tree_of (is_set c.config.options) (front_in c place) (source_at table place))
       (sym (other_crate crates k config krate.0 other)));
 }
+
+-- two facts of each answer
+on_both : {A B C D X T E : Type 0} (r : Result T E) → OnOk r A → OnOk r B → OnErr r C → OnErr r D → (A → B → X) → (C → D → X) → X
+on_both (Ok x) a b c d f g = f a b
+on_both (Err e) a b c d f g = g c d
+
+-- a crate was handed in, or all is as it was
+pub handed_current : {T E : Type 0} (r : Result T E) (old new : List CrateValue) (k : Crate) (config : ConfigValue) (table : SourceTable) (was is : SourceTrees)
+    → AreCurrent (workspace_in old table) was → OnOk r (new ≡ with_config old k.0 config) → OnOk r (AreLoweredAnew (crate_in new k.0) table k was is)
+    → OnErr r (new ≡ old) → OnErr r (is ≡ was) → AreCurrent (workspace_in new table) is
+handed_current r old new k config table was is are handed anew same kept = on_both r handed anew same kept
+    (λ there lowered. current_over (workspace_in (with_config old k.0 config) table) (workspace_in new table) is
+    (ap (λ (crates : List CrateValue). workspace_in crates table) (sym there))
+    (lowered_current old k.0 config table was is are
+    (subst (λ (crates : List CrateValue). AreLoweredAnew (crate_in crates k.0) table k was is) there lowered)))
+    (λ there trees. subst (λ (ts : SourceTrees). AreCurrent (workspace_in new table) ts) (sym trees)
+    (current_over (workspace_in old table) (workspace_in new table) was (ap (λ (crates : List CrateValue). workspace_in crates table) (sym there)) are))

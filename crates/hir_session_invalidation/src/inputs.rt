@@ -10,13 +10,14 @@ ghost use Rattle.hir_session_state.specs.HirCollectorRules.Derivation.{IsOverlon
 ghost use Rattle.hir_session_state.specs.HirCollectorRules.UnknownSources.{MeetsUnknownSource};
 ghost use Rattle.hir_session_state.specs.Blocks.{place_of_block, with_block, without_block};
 ghost use Rattle.hir_session_state.specs.HirCollectorRules.Workspace.{config_view};
-ghost use Rattle.hir_session_state.specs.Crates.{begins_in_block, beginning_in, with_config};
+ghost use Rattle.hir_session_state.specs.Crates.{begins_in_block, beginning_in, crate_in, with_config};
 ghost use Rattle.hir_session_state.specs.Entries.{with_entry, without_entry};
 ghost use Rattle.hir_session_state.specs.Files.{with_file, without_file};
 ghost use Rattle.hir_session_state.specs.Inputs.{workspace_by};
 ghost use Rattle.hir_session_state.specs.SessionState.{IsResolved};
-ghost use Rattle.hir_session_state.specs.SourceTable.{source_at, tree_under};
-ghost use Rattle.hir_session_sources.specs.SourceTrees.{AreTreesOf};
+ghost use Rattle.hir_session_state.specs.SourceTable.{source_at, tree_under, workspace_in};
+ghost use Rattle.hir_session_sources.specs.LoweredTrees.{AreLowered, AreLoweredAnew};
+ghost use Rattle.hir_session_sources.specs.SourceTrees.{AreCurrent, AreTreesOf};
 
 mod assoc_items;
 
@@ -28,10 +29,12 @@ use hir_base::macro_kind::ExpansionKey;
 use hir_base::place::BlockPlace;
 use hir_item_tree::source::Source;
 use hir_item_tree::source_tree::SourceTree;
+use hir_session_sources::crate_info::CrateInfo;
 use hir_session_sources::crates::Crates;
 use hir_session_sources::entry::Entry;
+use hir_session_sources::same_config::lower_alike;
 use hir_session_sources::source_table::SourceTable;
-use hir_session_sources::source_trees::{CrateTrees, SourceTrees, source_tree};
+use hir_session_sources::source_trees::{CrateTrees, LoweredTree, SourceTrees, source_tree};
 use hir_session_state::hir_collector_rules::collected::Collected;
 use hir_session_state::hir_collector_rules::source_database::Config;
 use hir_session_state::hir_collector_rules::start::CollectError;
@@ -41,6 +44,52 @@ use std::alloc::{AllocError, Global};
 use std::marker::Model;
 use std::mem::replace;
 use std::rc::Rc;
+
+/// What is kept of sources under a crate, lowered anew for the crate that is handed in so. Where each source has the same then,
+/// none is lowered.
+fn lowered_for(
+    alloc: Global,
+    crates: &Crates,
+    sources: &SourceTable,
+    trees: &SourceTrees,
+    krate: Crate,
+    info: &CrateInfo,
+) -> Result<Vec<LoweredTree>, AllocError>
+    requires current { AreCurrent (workspace_in crates.now sources.now) trees.now }
+    requires same { info.now.own ≡ (crate_in crates.now krate.0).own }
+    ensures lowered { IfOk result (λ lowered. AreLowered info.now sources.now krate trees.now lowered.items) }
+{
+    if let Some(before) = crates.get(krate) {
+        if lower_alike(before.config(), info.config()) {
+            return Ok(Vec::new(alloc));
+        }
+    }
+    trees.lowered(alloc, krate, info, sources)
+}
+
+/// Has a crate handed in with this, and what is kept of sources under it lowered anew. All that grows does so before anything is
+/// replaced.
+fn hand_in(
+    alloc: Global,
+    crates: &mut Crates,
+    sources: &SourceTable,
+    trees: &mut SourceTrees,
+    krate: Crate,
+    config: Config,
+) -> Result<(), AllocError>
+    requires within { krate.0 < length crates.old }
+    requires current { AreCurrent (workspace_in crates.old sources.now) trees.old }
+    ensures ok { OnOk result (crates.new ≡ with_config crates.old krate.0 (config_view config)) }
+    ensures lowered { OnOk result (AreLoweredAnew (crate_in crates.new krate.0) sources.now krate trees.old trees.new) }
+    ensures err { OnErr result (crates.new ≡ crates.old) }
+    ensures kept { OnErr result (trees.new ≡ trees.old) }
+{
+    let info = crates.handed_in(krate, config)?;
+    let lowered = lowered_for(alloc, crates, sources, trees, krate, &info)?;
+    crates.set(alloc, krate, info.into_config())?;
+    trees.replace_lowered(krate, lowered);
+    Ok(())
+}
 
 /// The crates and the sources, and what the sources have under the crates that asked for them.
 #[derive(Drop)]
@@ -146,8 +195,8 @@ impl Inputs {
         self.trees.replace(path, trees);
     }
 
-    /// Has a crate handed in with this; it is for data that name only crates which come before it. What sources had under the
-    /// crate isn't kept.
+    /// Has a crate handed in with this; it is for data that name only crates which come before it. What is kept of sources under
+    /// the crate is lowered anew.
     pub fn set_crate(
         &mut self,
         alloc: Global,
@@ -158,9 +207,14 @@ impl Inputs {
         ensures ok { OnOk result (self.new ≡ record self.old { crates = with_config self.old.crates krate.0 (config_view config) }) }
         ensures err { OnErr result (self.new ≡ self.old) }
     {
-        self.crates.set(alloc, krate, config)?;
-        self.trees.forget_crate(krate);
-        Ok(())
+        hand_in(
+            alloc,
+            &mut self.crates,
+            &self.sources,
+            &mut self.trees,
+            krate,
+            config,
+        )
     }
 
     /// Sets a block. What it had under its crate isn't kept.

@@ -51,21 +51,17 @@ module _ {K V : Type 0} (krate : Crate) (old new : Crate → Option (BTreeMap K 
       ∙ there ∙ ap (λ (k : Crate). entries_of (old k)) (equal_crate krate c on))
       (λ off. ap entries_of (else_of (new c) (Some is) (old c) (is_at (crate_order.ghosts.cmp krate) c) (becomes c) off))
 
-  -- the crate has none
-  pub entries_go : ((c : Crate) → new c ≡ (if is_at (crate_order.ghosts.cmp krate) c then None else old c))
-      → (c : Crate) → entries_of (new c) ≡ (if is_at (crate_order.ghosts.cmp krate) c then [] else entries_of (old c))
-  entries_go becomes c = on_bool (is_at (crate_order.ghosts.cmp krate) c)
-      (λ on. of_then (entries_of (new c)) [] (entries_of (old c)) (is_at (crate_order.ghosts.cmp krate) c)
-      (ap entries_of (then_of (new c) None (old c) (is_at (crate_order.ghosts.cmp krate) c) (becomes c) on)) on)
-      (λ off. of_else (entries_of (new c)) [] (entries_of (old c)) (is_at (crate_order.ghosts.cmp krate) c)
-      (ap entries_of (else_of (new c) None (old c) (is_at (crate_order.ghosts.cmp krate) c) (becomes c) off)) off)
+-- a change that leaves no entries where there are none changes nothing where the crate has none
+pub none_become : {K V : Type 0} (krate : Crate) (old : Crate → Option (BTreeMap K V)) (these : List (K × V) → List (K × V)) → these [] ≡ [] → None ≡ old krate
+    → (c : Crate) → entries_of (old c) ≡ (if is_at (crate_order.ghosts.cmp krate) c then these (entries_of (old c)) else entries_of (old c))
+none_become krate old these empty none c = on_bool (is_at (crate_order.ghosts.cmp krate) c)
+    (λ on.
+    let nothing : entries_of (old c) ≡ [] = ap (λ (k : Crate). entries_of (old k)) (sym (equal_crate krate c on)) ∙ ap entries_of (sym none) in
+    of_then (entries_of (old c)) (these (entries_of (old c))) (entries_of (old c)) (is_at (crate_order.ghosts.cmp krate) c)
+    (nothing ∙ sym (ap these nothing ∙ empty)) on)
+    (λ off. of_else (entries_of (old c)) (these (entries_of (old c))) (entries_of (old c)) (is_at (crate_order.ghosts.cmp krate) c) refl off)
 
 -- none are left out where the crate has none
 pub none_left_out : {K V : Type 0} (krate : Crate) (old : Crate → Option (BTreeMap K V)) (test : K × V → Bool) → None ≡ old krate
     → (c : Crate) → entries_of (old c) ≡ (if is_at (crate_order.ghosts.cmp krate) c then filter test (entries_of (old c)) else entries_of (old c))
-none_left_out krate old test none c = on_bool (is_at (crate_order.ghosts.cmp krate) c)
-    (λ on.
-    let nothing : entries_of (old c) ≡ [] = ap (λ (k : Crate). entries_of (old k)) (sym (equal_crate krate c on)) ∙ ap entries_of (sym none) in
-    of_then (entries_of (old c)) (filter test (entries_of (old c))) (entries_of (old c)) (is_at (crate_order.ghosts.cmp krate) c)
-    (nothing ∙ sym (ap (filter test) nothing)) on)
-    (λ off. of_else (entries_of (old c)) (filter test (entries_of (old c))) (entries_of (old c)) (is_at (crate_order.ghosts.cmp krate) c) refl off)
+none_left_out krate old test none c = none_become krate old (filter test) refl none c

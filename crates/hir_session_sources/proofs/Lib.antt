@@ -8,4 +8,6 @@ pub mod BlockLemmas
 pub mod SourceLemmas
 pub mod CrateEntries
 pub mod TreeLemmas
+pub mod Replaced
+pub mod Lowering
 pub mod Changing

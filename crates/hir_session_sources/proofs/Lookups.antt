@@ -147,6 +147,45 @@ module _ {K X Y : Type 0} (g : X → Y) where
       (λ on. rw on (valued-without test es))
       (λ off. rw off (ap (λ (rest : List (K × Y)). (e.0, g e.1) ∷ rest) (valued-without test es)))
 
+-- ---- a value that is put in place of another
+
+module _ {K X : Type 0} (test : K → Bool) where
+  -- where nothing is at the key all stays
+  pub set_value-none : (es : List (K × X)) (x : X) → lookup test es ≡ None → set_value test es x ≡ es
+  set_value-none [] x none = refl
+  set_value-none (e ∷ es) x none = on_bool (test e.0)
+      (λ on. no_value (sym none ∙ ap (λ (b : Bool). cond b (Some e.1) (lookup test es)) on))
+      (λ off. rw off (ap (λ (rest : List (K × X)). e ∷ rest)
+      (set_value-none es x (sym (ap (λ (b : Bool). cond b (Some e.1) (lookup test es)) off) ∙ none))))
+
+module _ {K X : Type 0} (cmp : K → K → Ordering) (exact : IsExact cmp) where
+  -- what is put in place of a value is there, and all else is as it was
+  pub lookup-put : (es : List (K × X)) (k : K) (x : X) (q : K) → lookup (is_at (cmp q)) (set_value (is_at (cmp k)) es x)
+      ≡ cond (is_at (cmp k) q) (option_map (λ _. x) (lookup (is_at (cmp q)) es)) (lookup (is_at (cmp q)) es)
+  lookup-put [] k x q = on_bool (is_at (cmp k) q) (λ on. rw on refl) (λ off. rw off refl)
+  lookup-put (e ∷ es) k x q = on_bool (is_at (cmp k) e.0)
+      (λ here. on_bool (is_at (cmp k) q)
+      (λ on.
+      let there : is_at (cmp q) e.0 ≡ true = at_same cmp exact q e.0 (sym (exact.same k q on) ∙ exact.same k e.0 here) in rw (here, on, there) refl)
+      (λ off. on_bool (is_at (cmp q) e.0)
+      (λ there. clash (at_same cmp exact k q (exact.same k e.0 here ∙ sym (exact.same q e.0 there))) off)
+      (λ other. rw (here, off, other) refl)))
+      (λ past. on_bool (is_at (cmp q) e.0)
+      (λ there. on_bool (is_at (cmp k) q)
+      (λ on. clash (at_same cmp exact k e.0 (exact.same k q on ∙ exact.same q e.0 there)) past)
+      (λ off. rw (past, there, off) refl))
+      (λ other. rw (past, other) (lookup-put es k x q)))
+
+module _ {K L X : Type 0} (f : K → L) (cmp : K → K → Ordering) (other : L → L → Ordering) (alike : (a b : K) → cmp a b ≡ other (f a) (f b)) where
+  -- under other keys that are compared alike too
+  pub renamed-put : (k : K) (es : List (K × X)) (x : X) → renamed f cmp other alike (set_value (is_at (cmp k)) es x)
+      ≡ set_value (is_at (other (f k))) (renamed f cmp other alike es) x
+  renamed-put k [] x = refl
+  renamed-put k (e ∷ es) x = on_bool (is_at (cmp k) e.0)
+      (λ on. let too : is_at (other (f k)) (f e.0) ≡ true = ap is_eq (sym (alike k e.0)) ∙ on in rw (on, too) refl)
+      (λ off. let too : is_at (other (f k)) (f e.0) ≡ false = ap is_eq (sym (alike k e.0)) ∙ off in
+      rw (off, too) (ap (λ (rest : List (L × X)). (f e.0, e.1) ∷ rest) (renamed-put k es x)))
+
 -- ---- a value that is written over
 
 module _ {K X : Type 0} (cmp : K → K → Ordering) (total : IsTotalOrder cmp) where

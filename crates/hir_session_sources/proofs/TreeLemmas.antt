@@ -168,11 +168,6 @@ pub in_listed : (listed : Bool) (tree : Option SourceTreeValue) (t : SourceTreeV
 in_listed true tree t is = is
 in_listed false tree t is = no_value is
 
--- what is left where one is dropped was there
-pub was_there : (b : Bool) (old : Option SourceTreeValue) (t : SourceTreeValue) → (if b then None else old) ≡ Some t → old ≡ Some t
-was_there true old t is = no_value is
-was_there false old t is = is
-
 -- a file that is listed has a tree
 listed_becomes : (here listed : Bool) (tree old : Option SourceTreeValue) → (here ≡ true → listed ≡ true)
     → listed_tree listed (if here then tree else old) ≡ (if here then tree else listed_tree listed old)
@@ -238,10 +233,10 @@ abbrev pub FilesStay : SourceTrees → SourceTrees → Type 0
 FilesStay old new = (j : List ℕ) (c : Crate) → tree_in new (file j) c ≡ tree_in old (file j) c
 
 module _ (old new : SourceTrees) where
-  of_blocks : BlocksStay old new → (q : BlockPlace) (c : Crate) → tree_in new (block q) c ≡ tree_in old (block q) c
+  pub of_blocks : BlocksStay old new → (q : BlockPlace) (c : Crate) → tree_in new (block q) c ≡ tree_in old (block q) c
   of_blocks stay q c = ap (λ (es : BlockTrees). block_tree es q c) (stay c)
 
-  of_expansions : ExpansionsStay old new → (q : ExpansionValue) (c : Crate) → tree_in new (expansion q) c ≡ tree_in old (expansion q) c
+  pub of_expansions : ExpansionsStay old new → (q : ExpansionValue) (c : Crate) → tree_in new (expansion q) c ≡ tree_in old (expansion q) c
   of_expansions stay q c = ap (λ (es : Trees). expansion_tree es q c) (stay c)
 
   pub files_stay : BlocksStay old new → ExpansionsStay old new → FilesStay old new → (p : SourcePlaceValue) (c : Crate) → tree_in new p c ≡ tree_in old p c

@@ -1,6 +1,7 @@
 -- What is stored under crates, by key? No public clause speaks of this.
 use Rattle.std.specs.Prelude.{List, [], Option, Some, None}
 use Rattle.std.specs.BTreeMap.{BTreeMap, get}
+use Rattle.std.specs.Map.{keys_of}
 use Rattle.hir_session_state.specs.HirIds.declared.ids.Crate.{Crate}
 use Rattle.hir_session_state.specs.HirIds.contracts.ids.CrateOrd.TheImpl as crate_order
 
@@ -16,3 +17,7 @@ entries_of (Some own) = own.entries
 -- the entries under a crate
 abbrev pub entries_under : {K V : Type 0} → ByCrate K V → Crate → List (K × V)
 entries_under stored krate = entries_of (get crate_order.ghosts.cmp stored krate)
+
+-- the keys under a crate
+abbrev pub keys_under : {K V : Type 0} → ByCrate K V → Crate → List K
+keys_under stored krate = keys_of (entries_under stored krate)

@@ -4,3 +4,4 @@ pub mod BlockCodes
 pub mod ByCrate
 pub mod EditValues
 pub mod SourceTrees
+pub mod LoweredTrees

@@ -1,10 +1,10 @@
-//! What is stored under crates, by key, so that what a crate has is dropped without a look at what others have.
-ghost use Rattle.std.specs.Prelude.{◌≡◌, [], filter, not, OnOk, OnErr, option_map, if◌then◌else◌};
+//! What is stored under crates, by key, so that what a crate has is found without a look at what others have.
+ghost use Rattle.std.specs.Prelude.{◌≡◌, filter, not, OnOk, OnErr, option_map, if◌then◌else◌};
 ghost use Rattle.std.specs.BTreeMap.{insert_entry, is_at};
-ghost use Rattle.std.specs.Map.{lookup};
+ghost use Rattle.std.specs.Map.{lookup, set_value};
 ghost use Rattle.hir_session_state.specs.HirIds.declared.ids.Crate.{Crate};
 ghost use Rattle.hir_session_state.specs.HirIds.contracts.ids.CrateOrd.TheImpl as crate_order;
-ghost use Rattle.hir_session_sources.specs.ByCrate.{entries_of, entries_under};
+ghost use Rattle.hir_session_sources.specs.ByCrate.{entries_under};
 
 use hir_base::ids::Crate;
 use std::alloc::{AllocError, Global};
@@ -62,12 +62,23 @@ pub fn remove_under<K: Ord + Drop, V: Drop>(stored: &mut ByCrate<K, V>, krate: C
     }
 }
 
-/// Takes out all that is stored under a crate.
-pub fn remove_crate<K: Ord + Drop, V: Drop>(
-    stored: &mut ByCrate<K, V>,
-    krate: Crate,
-) -> Option<BTreeMap<K, V>>
-    ensures value { (c : Crate) → entries_under stored.new c ≡ (if is_at (crate_order.ghosts.cmp krate) c then [] else entries_under stored.old c) }
+/// Puts a value in place of the one at a key, if there is one. It takes no memory.
+pub fn put_at<K: Ord, V: Drop>(own: &mut BTreeMap<K, V>, key: &K, value: V)
+    ensures value { own.new.entries ≡ set_value (is_at (K.cmp key.now)) own.old.entries value }
 {
-    stored.remove(&krate)
+    match own.get_mut(key) {
+        Some(slot) => *slot = value,
+        None => {}
+    }
+}
+
+/// Puts a value in place of what is stored at a key under a crate, if something is. It takes no memory.
+pub fn put_under<K: Ord, V: Drop>(stored: &mut ByCrate<K, V>, krate: Crate, key: &K, value: V)
+    ensures value { (c : Crate) → entries_under stored.new c ≡ (if is_at (crate_order.ghosts.cmp krate) c
+        then set_value (is_at (K.cmp key.now)) (entries_under stored.old c) value else entries_under stored.old c) }
+{
+    match stored.get_mut(&krate) {
+        Some(own) => put_at(own, key, value),
+        None => {}
+    }
 }

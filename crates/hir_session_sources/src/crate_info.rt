@@ -1,5 +1,5 @@
 //! A crate of a session.
-ghost use Rattle.std.specs.Prelude.{◌≡◌, [], option_map, unwrap_or};
+ghost use Rattle.std.specs.Prelude.{◌≡◌, [], IfOk, option_map, unwrap_or};
 ghost use Rattle.hir_session_state.specs.HirItemTree.Attributes.{attributes_view};
 ghost use Rattle.hir_session_state.specs.HirTables.SourcePlaces.{source_value};
 ghost use Rattle.hir_session_state.specs.HirCollectorRules.Workspace.{config_view};
@@ -11,6 +11,7 @@ use hir_base::cfg_options::CfgOptions;
 use hir_item_tree::raw_attr::RawAttr;
 use hir_session_state::hir_collector_rules::source_database::{Config, CrateRoot};
 use hir_tables::SourcePlace;
+use std::alloc::AllocError;
 use std::marker::Model;
 
 /// A crate: its root, what else it was handed in with, and the number of its root file.
@@ -63,6 +64,33 @@ impl CrateInfo {
         ensures value { self.new ≡ record self.old { config = config_view config } }
     {
         self.config = config;
+    }
+
+    /// What else it was handed in with, for itself.
+    pub fn into_config(self) -> Config
+        ensures value { config_view result ≡ self.config }
+    {
+        let CrateInfo {
+            own: _,
+            config,
+            file: _,
+        } = self;
+        config
+    }
+
+    /// The crate as it is where it is handed in with this.
+    pub fn with_config(&self, config: Config) -> Result<CrateInfo, AllocError>
+        ensures value { IfOk result (λ c. c ≡ record self.now { config = config_view config }) }
+    {
+        let own = CrateRoot {
+            root: self.own.root.clone()?,
+            is_proc_macro: self.own.is_proc_macro,
+        };
+        Ok(CrateInfo {
+            own,
+            config,
+            file: self.file,
+        })
     }
 
     /// Its root file, in its edition.

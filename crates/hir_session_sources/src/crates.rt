@@ -152,6 +152,14 @@ impl Crates {
         self.set_anew(alloc, k, config)
     }
 
+    /// A crate as it is where it is handed in with this.
+    pub fn handed_in(&self, krate: Crate, config: Config) -> Result<CrateInfo, AllocError>
+        requires within { krate.0 < length self.now }
+        ensures value { IfOk result (λ c. c ≡ record (crate_in self.now krate.0) { config = config_view config }) }
+    {
+        self.list[krate.0 as usize].with_config(config)
+    }
+
     /// How many crates there are.
     pub fn len(&self) -> usize
         ensures value { result ≡ length self.now }

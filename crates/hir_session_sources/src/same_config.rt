@@ -2,6 +2,7 @@
 ghost use Rattle.std.specs.Prelude.{◌≡◌, ◌↔◌, IsTrue};
 ghost use Rattle.hir_session_state.specs.HirCollectorRules.Workspace.{config_view};
 ghost use Rattle.hir_session_state.specs.Beginning.{IsSameConfig};
+ghost use Rattle.hir_session_sources.specs.LoweredTrees.{LowerAlike};
 
 use hir_item_tree::same::same_name;
 use hir_item_tree::same_attrs::same_raw_attrs;
@@ -44,4 +45,15 @@ pub fn same_config(given: &Config, config: &Config) -> bool
         return false;
     }
     config.options.same(&given.options)
+}
+
+/// Whether each source has the same under crates of one root that are handed in so: their options are the same, and what stands
+/// in front of the root's attributes.
+pub fn lower_alike(one: &Config, other: &Config) -> bool
+    ensures exact { IsTrue result ↔ LowerAlike (config_view one.now) (config_view other.now) }
+{
+    if !same_raw_attrs(&one.attributes, &other.attributes) {
+        return false;
+    }
+    one.options.same(&other.options)
 }

@@ -15,7 +15,10 @@ ghost use Rattle.hir_session_state.specs.HirTables.SourcePlaces.{SourcePlaceValu
 ghost use Rattle.hir_session_state.specs.SourceTable.{front_in, tree_under};
 ghost use Rattle.hir_session_sources.specs.SourceTrees.{file_tree, is_kept_at, is_listed, is_place, tree_by, tree_in};
 
-use crate::by_crate::{get_under, insert_under, remove_crate, remove_under};
+mod lowering;
+
+pub use self::lowering::LoweredTree;
+use crate::by_crate::{get_under, insert_under, put_at, remove_under};
 use crate::copied_key::copied_key;
 use crate::crate_info::CrateInfo;
 use crate::crates::Crates;
@@ -40,7 +43,7 @@ type FileTrees = BTreeMap<FilePath, CrateTrees>;
 /// What each file has under each crate that asked for it, each block under its own, and each expansion under the crate that calls.
 ///
 /// What a file has stands by file, since an edit of the file replaces it under all crates; it counts as kept under the crates
-/// that list the file. All else stands by crate, since an edit of a crate's data drops what is kept under that crate.
+/// that list the file. All else stands by crate, since an edit of a crate's data lowers anew what is kept under that crate.
 #[derive(Drop)]
 pub struct SourceTrees {
     by_path: BTreeMap<FilePath, BTreeMap<Crate, Rc<SourceTree>>>,
@@ -85,24 +88,14 @@ fn set_tree(
     }
 }
 
-/// Drops what a file has under a crate.
-fn drop_tree(files: &mut FileTrees, path: &FilePath, krate: Crate)
-    ensures left { (p : List ℕ) (c : Crate) (t : SourceTreeValue) → file_tree files.new p c ≡ Some t → file_tree files.old p c ≡ Some t }
+/// Has a file have this under a crate, where it has something under it. It takes no memory.
+fn put_tree(files: &mut FileTrees, path: &FilePath, krate: Crate, tree: Rc<SourceTree>)
+    ensures value { (p : List ℕ) (c : Crate) → file_tree files.new p c
+        ≡ (if is_kept_at (file path.now) krate (file p) c then option_map (λ _. tree.value) (file_tree files.old p c) else file_tree files.old p c) }
 {
     match files.get_mut(path) {
-        Some(kept) => {
-            kept.remove(&krate);
-        }
+        Some(kept) => put_at(kept, &krate, tree),
         None => {}
-    }
-}
-
-/// Drops what these files have under a crate.
-fn drop_trees(files: &mut FileTrees, paths: &BTreeMap<FilePath, ()>, krate: Crate)
-    ensures left { (p : List ℕ) (c : Crate) (t : SourceTreeValue) → file_tree files.new p c ≡ Some t → file_tree files.old p c ≡ Some t }
-{
-    for path in paths.keys() {
-        drop_tree(files, path, krate);
     }
 }
 
@@ -270,19 +263,6 @@ impl SourceTrees {
         ensures others { (p : SourcePlaceValue) (c : Crate) → is_place (block place.now) p ≡ false → tree_in self.new p c ≡ tree_in self.old p c }
     {
         remove_under(&mut self.by_block, place.holder.krate(), place);
-    }
-
-    /// Drops what is kept of sources under a crate.
-    pub fn forget_crate(&mut self, krate: Crate)
-        ensures gone { (place : SourcePlaceValue) → tree_in self.new place krate ≡ None }
-        ensures kept { (place : SourcePlaceValue) (c : Crate) (t : SourceTreeValue) → tree_in self.new place c ≡ Some t → tree_in self.old place c ≡ Some t }
-    {
-        match remove_crate(&mut self.paths, krate) {
-            Some(paths) => drop_trees(&mut self.by_path, &paths, krate),
-            None => {}
-        }
-        remove_crate(&mut self.by_block, krate);
-        remove_crate(&mut self.by_key, krate);
     }
 
     /// Drops what is kept of an expansion.
