@@ -13,7 +13,8 @@ returns-then-lower_alike c =
     let same : LowerAlike (config_view c.config.result.now) (config_view c.config-in-Some.result.now) = c.lower_alike.ensures.exact.0 c.if-lower_alike.true in
     let alike : LowerAlike before.config c.args.info.now.config =
     subst (λ (v : ConfigValue). LowerAlike before.config v) c.config-in-Some.ensures.value
-    (subst (λ (v : ConfigValue). LowerAlike v (config_view c.config-in-Some.result.now)) (c.config.ensures.value ∙ ap (λ (i : CrateValue). i.config) found) same) in
+    (subst (λ (v : ConfigValue). LowerAlike v (config_view c.config-in-Some.result.now))
+    (c.config.ensures.value ∙ ap (λ (i : CrateValue). i.config) found) same) in
     record {
       lowered = none_lowered c.args.info.now c.args.sources.now c.args.krate c.args.trees.now c.new.result.items c.new.ensures.items
           (λ p tree is. c.requires.current.each p c.args.krate tree is
