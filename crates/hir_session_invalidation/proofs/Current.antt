@@ -1,5 +1,6 @@
 -- What is kept of sources stays what they have.
-use Rattle.std.proofs.Common.{◌≡◌, ◌∙◌, ℕ, ap, sym, subst, refl, nat_eq, Bool, true, false, ◌&&◌, if◌then◌else◌, List, Option, Some, None, option_map, Result, Ok, Err, OnOk, OnErr}
+use Rattle.std.proofs.Common.{◌≡◌, ◌∙◌, ℕ, ap, sym, subst, refl, nat_eq, Bool, true, false, ◌&&◌, if◌then◌else◌, List, Option, Some, None}
+use Rattle.std.proofs.Common.{option_map, Result, Ok, Err, OnOk, OnErr}
 use Rattle.std.proofs.lemmas.Bool.{eqb-true}
 use Rattle.std.specs.BTreeMap.{is_at}
 use Rattle.std.specs.Cmp.Lexicographic.{slice_cmp}
