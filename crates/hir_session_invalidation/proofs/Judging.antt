@@ -19,7 +19,7 @@ use Rattle.hir_session_state.specs.HirCollectorRules.Workspace.{Workspace}
 use Rattle.hir_session_state.specs.HirCollectorRules.declared.source_database.Key.{Key}
 use Rattle.hir_session_state.specs.HirCollectorRules.contracts.source_database.KeyOrd.TheImpl as key_order
 use Rattle.hir_session_state.specs.Askers.{HoldsExactly, KeyAskers, asked_by, has_asked, has_asked_in, in_front, is_first, is_in, listed}
-use Rattle.hir_session_state.specs.Types.{KeyPlaces}
+use Rattle.hir_session_state.specs.declared.askers.KeyPlaces.{KeyPlaces}
 use Rattle.hir_session_state.specs.Crates.{CrateValue}
 use Rattle.hir_session_state.specs.EditedSources.{AreHit, AreJudged, IsAsked, IsHit, IsJudged}
 use Rattle.hir_session_state.specs.EditedSources.IsJudged.{hit, missed}
