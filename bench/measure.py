@@ -7,6 +7,8 @@ import tempfile
 import threading
 import time
 
+# Rust's serde_json, which reads each line and does nothing else.
+READER = "bench/serde_json_lines/target/release/serde_json_lines"
 # Runs its argument, and prints the most memory that it had, in kB. The kernel counts for a program what its parent
 # had when it was started, so the parent is this small one.
 MEMORY = """import resource, subprocess, sys
