@@ -213,18 +213,18 @@ def calls_of_a_textual_attribute(n):
     return Input(*(made.call("w") for _ in range(n)), *rounds, made.struct("S"), entries=made.entries, path="S")
 
 
-def attributes_of_a_called_name(n):
-    """n structs under an attribute `w`, beside n rounds that each define `w` for calls alone."""
+def attributes_of_a_textual_name(n):
+    """n structs under an attribute `w`, beside n rounds that each define `w` by `macro_rules!` for calls alone."""
     made = Attributes()
-    rounds = in_a_chain_of_calls(made, n, lambda k: [made.macro("w")])
+    rounds = in_a_chain_of_calls(made, n, lambda k: [made.rules("w")])
     structs = [made.under(made.struct(f"S{k}"), "w") for k in range(n)]
     return Input(*structs, *rounds, entries=made.entries, path=f"S{n - 1}")
 
 
-def derives_of_a_called_name(n):
-    """n structs with a derive `w`, beside n rounds that each define `w` for calls alone."""
+def derives_of_a_textual_name(n):
+    """n structs with a derive `w`, beside n rounds that each define `w` by `macro_rules!` for calls alone."""
     made = Attributes()
-    rounds = in_a_chain_of_calls(made, n, lambda k: [made.macro("w")])
+    rounds = in_a_chain_of_calls(made, n, lambda k: [made.rules("w")])
     structs = [made.under(made.struct(f"S{k}"), made.derive("w")) for k in range(n)]
     return Input(*structs, *rounds, entries=made.entries, path=f"S{n - 1}")
 
@@ -443,8 +443,8 @@ INPUTS = {
     called_crates_with_macro_use: 1000,
     calls_of_an_attribute: 1000,
     calls_of_a_textual_attribute: 1000,
-    attributes_of_a_called_name: 1000,
-    derives_of_a_called_name: 1000,
+    attributes_of_a_textual_name: 1000,
+    derives_of_a_textual_name: 1000,
     imports_through_a_called_name: 1000,
     globs_of_a_called_name: 1000,
     imports_through_a_crate: 1000,
