@@ -6,8 +6,8 @@ time the least of some runs, the ratios of the times, and the bytes of the longe
 Usage, at the top of the repository: bench/hostile.py [--program FILE] [--model] [--tries N] [NAME [n]..]. Without a name it takes each
 of INPUTS and LONG_TEXTS, at the size that stands there. With --model it times nothing: each input, at the sizes given or else 1, 2, 3
 and 7, has to be answered as the plain model (tools/model) answers it, with a dump and the diagnostics of each crate. The program is by
-default crates/hir_session_main/out/hir_session_main, which `rt run < /dev/null` builds there. Before a run of inputs whose memory grows
-without end `ulimit -d` bounds it.
+default crates/hir_session_main/out/hir_session_main, which `rt run < /dev/null` builds there. Those of ENDLESS have no size: they are
+run with 100 MB, where a refresh has to be refused, and one after an edit has to resolve the rest.
 """
 import argparse
 import json
@@ -428,6 +428,23 @@ def with_refreshes(edits):
     return [command for edit in edits for command in ({"do": "refresh"}, edit)]
 
 
+# ---- what grows without end
+
+def file_of_itself_twice():
+    """A file whose modules are itself, twice: 2^32 modules. Then the same file without them."""
+    made = Attributes()
+    modules = [made.under(made.make("Module", name=name), {"path": "path", "literal": "lib.rs"}) for name in ("a", "b")]
+    return Input(*modules, made.struct("S"), edits=[Input.file("lib.rs", [made.struct("S")])], path="S")
+
+
+def expansion_of_two_calls():
+    """An expansion that holds two calls of itself: 2^128 of them. Then without it."""
+    made = Attributes()
+    made.expand("m", "", made.call("m"), made.call("m"))
+    remove = {"do": "remove expansion", "key": made.entries[0]["key"]}
+    return Input(made.rules("m"), made.call("m"), made.struct("S"), entries=made.entries, edits=[remove], path="S")
+
+
 INPUTS = {
     helpers_above_derives: 1000,
     helpers_around_derives: 1000,
@@ -471,6 +488,9 @@ LONG_TEXTS = {
     diagnostics_of_nested_calls: 500,
     modules_under_a_long_condition: 250,
 }
+# Inputs of no size, which are refused for want of memory. Their edits mend them.
+ENDLESS = [file_of_itself_twice, expansion_of_two_calls]
+ENOUGH = 100_000_000
 
 
 def timed(program, made, n, tries):
@@ -518,6 +538,16 @@ def alike(program, made, n):
     print(f"{made.__name__}: {n}: as the model", flush=True)
 
 
+def refused(program, made):
+    """Prints what a refresh takes that is refused for want of memory; after an edit another one has to resolve the rest."""
+    it = made()
+    parts = [it.begin(), [{"do": "refresh"}], [*it.edits, {"do": "refresh"}, {"do": "resolve", "at": it.at, "path": it.path}]]
+    seconds, replies = run_parts(["prlimit", f"--data={ENOUGH}", program], parts)
+    if replies[len(parts[0])].strip() != '{"error":"memory"}' or '"kind":"Struct"' not in replies[-1]:
+        sys.exit(f"{made.__name__}: {replies}")
+    print(f"{made.__name__}: refused after {seconds[1]:.3f} s with {ENOUGH // 1_000_000} MB; mended and resolved in {seconds[2]:.3f} s", flush=True)
+
+
 def main():
     parser = argparse.ArgumentParser()
     parser.add_argument("--program", default=SESSION)
@@ -534,6 +564,9 @@ def main():
                     alike(options.program, made, n)
                 else:
                     timed(options.program, made, n, options.tries)
+    for made in [] if options.model else ENDLESS:
+        if options.name in (None, made.__name__):
+            refused(options.program, made)
 
 
 if __name__ == "__main__":

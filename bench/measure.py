@@ -55,7 +55,7 @@ def feed(pipe, given):
 
 def run_parts(program, parts):
     """Seconds of processor of each part of a session, handed in once the part before it is answered; and the replies."""
-    child = subprocess.Popen([program], stdin=subprocess.PIPE, stdout=subprocess.PIPE)
+    child = subprocess.Popen(program if isinstance(program, list) else [program], stdin=subprocess.PIPE, stdout=subprocess.PIPE)
     seconds, replies = [], []
     for commands in parts:
         before = used(child.pid)

@@ -61,12 +61,12 @@ def variants(n):
 
 def impls(n):
     """an impl with a function, which binds no name"""
-    return in_files(n, lambda made, numbers: [made.make("Impl", trait=None, items=[made.function(f"item{k}")]) for k in numbers])
+    return in_files(n, lambda made, numbers: [made.make("Impl", trait=False, items=[made.function(f"item{k}")]) for k in numbers])
 
 
 def functions_of_one_impl(n):
     """a function of an impl of 250"""
-    return in_files(n, lambda made, numbers: [made.make("Impl", trait=None, items=[made.function(f"item{k}") for k in numbers])])
+    return in_files(n, lambda made, numbers: [made.make("Impl", trait=False, items=[made.function(f"item{k}") for k in numbers])])
 
 
 def imports(n):
