@@ -5,9 +5,11 @@ beside what rustc takes to expand and resolve the same crates without bodies: se
 Usage, at the top of the repository: bench/real.py [--program FILE] [--front FILE] [--reader FILE] [--keep FOLDER] [--no-rustc] [NAME ..]
 
 It prints a line of a table for each of CRATES, or those that are named. A session has the crate and all that it depends on. The crate
-`std` is the standard library's sources with syn over them; the others have a stub in its place, since rustc doesn't resolve it
-anew either. An item is added to, and a body edited in, the file of middle length among those of the crate that have a function.
-The memory is divided by the JSON less what a session without a line takes. The sessions are kept in FOLDER and taken from there again.
+`std` is the standard library's sources with syn over them; the others have a stub in its place, since rustc doesn't resolve it anew
+either: rustc's time is divided by the refresh as it is, and by the refresh less that of a session with the stub alone. An item is added
+to, and a body edited in, the file of middle length among those of the crate that have a function; the times are of the edit with its
+refresh. The memory is divided by the JSON less what a session without a line takes. The sessions are kept in FOLDER and taken from there
+again.
 
 It takes rustc, Cargo, rust-src and librust-*-dev from Debian (/usr/bin/rustc and /usr/bin/cargo; RUSTC and CARGO name others), the
 front end (`cargo build --release --config debian.toml` in front), the reader (the same with `--config ../../front/debian.toml` in
@@ -53,6 +55,8 @@ CRATES = {
     "std": [],
     **{name: [] for name in WEB_SYS},
 }
+COLUMNS = ["Crate", "crates", "JSON, MB", "read and kept, s", "/ serde_json", "first refresh, s", "rustc, s", "rustc / refresh",
+           "less the stub's", "an item, ms", "a body, ms", "10,000 questions, s", "memory, MB", "/ JSON"]
 # Runs what it is given. Of a library it is run some times more, without what comes behind resolution, and what that says of its
 # passes is written into a folder.
 WRAPPER = """#!/usr/bin/env python3
@@ -94,23 +98,26 @@ def crate_of(name):
 
 
 def make_package(folder, name):
-    """A package that depends on the crate."""
+    """A package that depends on the crate, if one is named."""
     os.makedirs(os.path.join(folder, "src"))
     open(os.path.join(folder, "src", "lib.rs"), "w").close()
     with open(os.path.join(folder, "Cargo.toml"), "w") as manifest:
         manifest.write('[package]\nname = "one"\nversion = "0.1.0"\nedition = "2021"\n[workspace]\n[dependencies]\n')
+        if name is None:
+            return
         listed = features_of("syn" if name == "std" else name)
         manifest.write(f'{crate_of(name)} = {{ version = "*", features = {json.dumps(listed)} }}\n')
 
 
 def session_of(options, package, name):
-    """The lines of the crate's session, made by the front end where they aren't kept."""
+    """The lines of the crate's session, or of one of no crate, made by the front end where they aren't kept."""
     kept = options.keep and os.path.join(options.keep, f"{name}.jsonl")
     if kept and os.path.exists(kept):
         with open(kept) as lines:
             return [json.loads(line) for line in lines]
     std = ["--std-sources", STD] if name == "std" else ["--no-std"]
-    command = [options.front, "session", package, "-p", crate_of(name), *std, "--config", "front/debian.toml"]
+    wanted = ["-p", crate_of(name)] if name else []
+    command = [options.front, "session", package, *wanted, *std, "--config", "front/debian.toml"]
     made = subprocess.run(command, capture_output=True, text=True, env=environment(NOGSIMAT_PROGRAM=os.path.abspath(options.program)))
     if made.returncode:
         sys.exit(f"{name}: {made.stderr}")
@@ -191,7 +198,8 @@ def rustc_seconds(folder, package, name):
         script.write(WRAPPER)
     os.chmod(wrapper, 0o755)
     os.mkdir(passes)
-    command = [tool("CARGO", "/usr/bin/cargo"), "--config", os.path.abspath("front/debian.toml"), "check", "--offline", "-p", crate_of(name), "-j1"]
+    cargo, config = tool("CARGO", "/usr/bin/cargo"), os.path.abspath("front/debian.toml")
+    command = [cargo, "--config", config, "check", "--offline", "-p", crate_of(name), "-j1"]
     built = subprocess.run(command, cwd=package, capture_output=True, text=True, env=environment(
         CARGO_TARGET_DIR=os.path.join(folder, "target"), RUSTC_WRAPPER=wrapper, PROCESSOR_CLOCK=clock, PASSES=passes))
     if built.returncode:
@@ -206,23 +214,36 @@ def rustc_seconds(folder, package, name):
     return sum(least.values())
 
 
-def one(options, name):
+def without_refresh(session):
+    return [command for command in session if command["do"] != "refresh"]
+
+
+def stub_seconds(options):
+    """The refresh of a session that has the stub alone."""
+    with tempfile.TemporaryDirectory() as folder:
+        package = os.path.join(folder, "package")
+        make_package(package, None)
+        begin = without_refresh(session_of(options, package, None))
+    return min(run_parts(options.program, [begin, [{"do": "refresh"}]])[0][1] for _ in range(5))
+
+
+def one(options, name, stub):
     with tempfile.TemporaryDirectory() as folder:
         package = os.path.join(folder, "package")
         make_package(package, name)
         session = session_of(options, package, name)
         rustc = None if options.no_rustc or name == "std" else rustc_seconds(folder, package, name)
-    begin = [it for it in session if it["do"] != "refresh"]
+    begin = without_refresh(session)
     folder = re.compile(rf"/{re.escape(crate_of(name))}-\d[^/]*/src/lib\.rs$")
     number = next(k for k, it in enumerate(begin[0]["crates"]) if folder.search(it["root"]))
     size = len(text(begin)) / 1e6
     tries = 5 if size < 4 else 3
     reading, refreshed, asked, added, body = measured(options.program, begin, crate_of(name), number, tries)
-    reader = best(options.reader, begin, tries)
+    reader = best(options.reader, begin, tries) - best(options.reader, [], tries)
     most = memory(options.program, [*begin, {"do": "refresh"}])
     beyond = most - memory(options.program, [])
-    print(f"| {name} | {len(begin[0]['crates'])} | {size:.2f} | {reading:.3f} | {reading / reader:.1f} | {refreshed:.3f} | "
-          + (f"{rustc:.3f} | {rustc / refreshed:.1f}" if rustc else " | ")
+    print(f"| {name} | {len(begin[0]['crates'])} | {size:.2f} | {reading:.4f} | {reading / reader:.1f} | {refreshed:.4f} | "
+          + (f"{rustc:.3f} | {rustc / refreshed:.1f} | {rustc / (refreshed - stub):.1f}" if rustc else " | | ")
           + f" | {added * 1000:.1f} | {body * 1000:.2f} | {asked:.3f} | {most:.0f} | {beyond / size:.0f} |", flush=True)
 
 
@@ -235,11 +256,10 @@ def main():
     parser.add_argument("--no-rustc", action="store_true")
     parser.add_argument("names", nargs="*")
     options = parser.parse_args()
-    print("| Crate | crates | JSON, MB | read and kept, s | / serde_json | first refresh, s | rustc, s | rustc / refresh | an item, ms | "
-          "a body, ms | 10,000 questions, s | memory, MB | / JSON |")
-    print("|" + "---|" * 13, flush=True)
+    print("| " + " | ".join(COLUMNS) + " |\n|" + "---|" * len(COLUMNS), flush=True)
+    stub = stub_seconds(options)
     for name in options.names or CRATES:
-        one(options, name)
+        one(options, name, stub)
 
 
 if __name__ == "__main__":
