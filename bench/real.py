@@ -111,7 +111,7 @@ def make_package(folder, name):
 
 def session_of(options, package, name):
     """The lines of the crate's session, or of one of no crate, made by the front end where they aren't kept."""
-    kept = options.keep and os.path.join(options.keep, f"{name}.jsonl")
+    kept = options.keep and os.path.join(options.keep, f"{name or 'stub'}.jsonl")
     if kept and os.path.exists(kept):
         with open(kept) as lines:
             return [json.loads(line) for line in lines]
@@ -244,7 +244,8 @@ def one(options, name, stub):
     beyond = most - memory(options.program, [])
     print(f"| {name} | {len(begin[0]['crates'])} | {size:.2f} | {reading:.4f} | {reading / reader:.1f} | {refreshed:.4f} | "
           + (f"{rustc:.3f} | {rustc / refreshed:.1f} | {rustc / (refreshed - stub):.1f}" if rustc else " | | ")
-          + f" | {added * 1000:.1f} | {body * 1000:.2f} | {asked:.3f} | {most:.0f} | {beyond / size:.0f} |", flush=True)
+          + f" | {added * 1000:.1f} | {body * 1000:.2f} | {asked:.3f} | {most:.0f} | "
+          + (f"{beyond / size:.0f}" if beyond > 1 else "") + " |", flush=True)
 
 
 def main():
