@@ -460,23 +460,30 @@ fn watch(path: &Path, options: &Options) -> Result<ExitCode> {
             if sources.iter().any(|it| it.metadata().is_ok_and(|it| it.len() == 0)) {
                 std::thread::sleep(Duration::from_millis(50));
             }
+            if let [it] = &sources[..] {
+                if let Some(next) = space.report_of_file(it)? {
+                    tell_changes(&report, &next, None, start.elapsed(), options.json)?;
+                    report = next;
+                }
+            }
             space.update(&sources)?
         };
         let next = space.report()?;
         let taken = start.elapsed();
         let names: Vec<&str> = resolved.iter().map(|it| &*space.crates.all[*it as usize].title).collect();
-        tell_changes(&report, &next, &names, taken, options.json)?;
+        tell_changes(&report, &next, Some(&names), taken, options.json)?;
         report = next;
     }
     Ok(ExitCode::SUCCESS)
 }
 
-fn tell_changes(before: &Report, now: &Report, names: &[&str], taken: Duration, json: bool) -> Result<()> {
+/// Tells what came and went. Without the names of crates it is known before any is resolved again.
+fn tell_changes(before: &Report, now: &Report, names: Option<&[&str]>, taken: Duration, json: bool) -> Result<()> {
     let came: Vec<&Diagnostic> = now.diagnostics.iter().filter(|it| !before.diagnostics.contains(it)).collect();
     let went: Vec<&Diagnostic> = before.diagnostics.iter().filter(|it| !now.diagnostics.contains(it)).collect();
     if json {
         return print_json(&serde_json::json!({
-            "resolved": names, "microseconds": taken.as_micros() as u64, "errors": now.diagnostics.len(), "new": came,
+            "resolved": names.unwrap_or_default(), "microseconds": taken.as_micros() as u64, "errors": now.diagnostics.len(), "new": came,
             "gone": went,
         }));
     }
@@ -487,9 +494,10 @@ fn tell_changes(before: &Report, now: &Report, names: &[&str], taken: Duration, 
     for it in went {
         print(&format!("gone: {}:{}:{}: {}\n", it.place.file, it.place.line, it.place.column, it.message))?;
     }
-    let what = match names.len() {
-        0 => "nothing to resolve again".to_owned(),
-        _ => format!("resolved again: {}", names.join(", ")),
+    let what = match names {
+        None => "known at once".to_owned(),
+        Some([]) => "nothing to resolve again".to_owned(),
+        Some(names) => format!("resolved again: {}", names.join(", ")),
     };
     print(&format!("{what} ({}); {}\n", time(taken), plural(now.diagnostics.len(), "error")))
 }

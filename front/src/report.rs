@@ -19,8 +19,8 @@ use crate::unit::{numbered, paths_of, place_json, quoted, steps_of, Detail};
 use crate::workspace::{bytes_of, key_of, path_of_key, Key, Located, NotRun, Workspace};
 pub use answers::{Answer, Meaning};
 pub(crate) use associated::MOST_ALIASES;
-pub(crate) use imports::{past_items, Reached};
-use imports::{prefixes, Bound, Import};
+pub(crate) use imports::{past_items, prefixes, Reached, NAMESPACES};
+use imports::{Bound, Import};
 
 /// A place in a file.
 #[derive(Clone, PartialEq, Eq, PartialOrd, Ord, Hash, Debug, Serialize)]
