@@ -182,8 +182,13 @@ impl Options {
     }
 }
 
-/// The folder that is given. In place of the current one, where that has no `Cargo.toml`, it is the nearest above that does.
+/// The folder that is given. In place of the current one, where that has no `Cargo.toml`, and of a file in Rust it is the
+/// nearest above that does.
 fn nearest_package(path: &Path) -> PathBuf {
+    let is_source = path.extension().is_some_and(|it| it == "rs") && path.is_file();
+    if let Some(it) = is_source.then(|| package_of(path).ok()).flatten() {
+        return it;
+    }
     let here = std::env::current_dir().ok().filter(|_| path == Path::new("."));
     let found = here.as_deref().and_then(|it| it.ancestors().find(|it| it.join("Cargo.toml").is_file()));
     found.filter(|it| Some(*it) != here.as_deref()).unwrap_or(path).to_owned()

@@ -80,6 +80,8 @@ fn check_tells_what_is_not_resolved() {
     compare_run("check-json", folder.path(), &["check", "--no-std", "--json"]);
     compare_run("check-test", folder.path(), &["check", "shop", "--no-std", "--test", "--no-default-features"]);
     compare_run("check-package", folder.path(), &["check", "--no-std", "-p", "codec", "--features", "codec/numbers"]);
+    let of = |path: &str| steady(&run(folder.path(), &["check", path, "--no-std"]), folder.path());
+    assert_eq!(of("shop/src/report.rs"), of("shop"));
 }
 
 #[test]
