@@ -15,7 +15,7 @@ use serde_json::{json, Value};
 use super::files::{key_of, parse};
 use super::lookups::{Glob, Importing, Questions, Source};
 use super::unnamed::{plain_names, Changed, Changes};
-use super::{Key, KnownBy, ModulePlace, Parsed, Seen, Workspace};
+use super::{Key, KnownBy, ModulePlace, Parsed, Seen, Sent, Workspace};
 use crate::question::Context;
 use crate::report::{prefixes, question, Reached, Report, NAMESPACES};
 use crate::syntax::Unit;
@@ -339,9 +339,13 @@ impl Workspace {
             return Ok(None);
         }
         // Places are those of the file as it is.
-        let Some((mut built, mut unit)) = self.made.as_ref().map(|it| (it.built.clone(), it.unit.clone())) else {
-            return Ok(None);
-        };
+        let Sent { krate, left_out, .. } = self.sent[&key];
+        let made = self.made.as_ref().filter(|it| it.is_of(&key, krate, &parsed.unit, left_out));
+        let made = made.map(|it| (it.built.clone(), it.unit.clone()));
+        let (mut built, mut unit) = made.unwrap_or_else(|| {
+            let made = self.make(&key, krate, &parsed.unit, left_out);
+            (made.built, made.unit)
+        });
         let mut parsed = Some(Arc::new(parsed));
         self.exchange(&key, &mut built, &mut unit, &mut parsed);
         let report = self.report_ahead(&key);

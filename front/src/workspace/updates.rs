@@ -135,7 +135,7 @@ impl Workspace {
     }
 
     /// Makes of the items of a file what is handed in.
-    fn make(&self, key: &Key, krate: u32, unit: &Arc<Unit>, left_out: Derives) -> Made {
+    pub(super) fn make(&self, key: &Key, krate: u32, unit: &Arc<Unit>, left_out: Derives) -> Made {
         self.moved.lock().unwrap_or_else(PoisonError::into_inner).clear();
         let (options, expanded) = (&self.crates.all[krate as usize].options, self.expanded(krate));
         let without = Without { derives: left_out, associated: self.is_brief };
