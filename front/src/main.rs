@@ -29,7 +29,7 @@ struct Cli {
 enum Command {
     /// Tells what isn't resolved in a package: imports, modules, extern crates, macro calls
     Check {
-        /// The package's folder, or its Cargo.toml
+        /// The package's folder, its Cargo.toml, or one of its files
         #[arg(default_value = ".")]
         path: PathBuf,
         #[command(flatten)]
@@ -54,7 +54,7 @@ enum Command {
     },
     /// Checks, and again after each save
     Watch {
-        /// The package's folder, or its Cargo.toml
+        /// The package's folder, its Cargo.toml, or one of its files
         #[arg(default_value = ".")]
         path: PathBuf,
         #[command(flatten)]
@@ -67,7 +67,7 @@ enum Command {
     },
     /// Prints the session: the commands that the resolver's program is given, one a line
     Session {
-        /// The package's folder, or its Cargo.toml
+        /// The package's folder, its Cargo.toml, or one of its files
         #[arg(default_value = ".")]
         path: PathBuf,
         #[command(flatten)]
@@ -92,8 +92,10 @@ struct Options {
     /// Features of the package, separated by commas or spaces
     #[arg(long, short = 'F', value_name = "FEATURES")]
     features: Vec<String>,
+    /// Every feature of the package
     #[arg(long)]
     all_features: bool,
+    /// Not the package's default features
     #[arg(long)]
     no_default_features: bool,
     /// With `cfg(test)`, and with tests, examples and their dependencies

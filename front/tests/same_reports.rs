@@ -218,50 +218,56 @@ fn random_edits_of_the_example() {
     assert!(by_look_ups > 60, "{by_look_ups}");
 }
 
-/// A line of a file: an item or an import of few names, of few modules.
-fn random_line(dice: &mut Dice) -> String {
+const MODULES: [&str; 4] = ["a", "b", "c", "d"];
+const NAMES: [&str; 7] = ["One", "Two", "Three", "Four", "Five", "Six", "Seven"];
+
+/// A line that comes into a file with others: an item that isn't there, or an import of another module's.
+fn random_line(others: &[String], number: usize, dice: &mut Dice) -> String {
     let mut one_of = |all: &[&'static str]| all[dice.below(all.len())];
     let visibility = one_of(&["pub ", "pub ", "pub ", "pub(crate) ", "pub(super) ", ""]);
-    let (module, name) = (one_of(&["a", "b", "c", "d"]), one_of(&["One", "Two", "Three", "Four"]));
-    match one_of(&["item", "item", "item", "item", "import", "import", "import", "renamed", "glob"]) {
-        "item" => match one_of(&["struct", "tuple", "enum", "fn", "trait"]) {
-            "struct" => format!("{visibility}struct {name};"),
-            "tuple" => format!("{visibility}struct {name}(u8);"),
-            "enum" => format!("{visibility}enum {name} {{ A }}"),
-            "fn" => format!("{visibility}fn {name}() {{}}"),
-            _ => format!("{visibility}trait {name} {{}}"),
-        },
-        "import" => format!("{visibility}use crate::{module}::{name};"),
-        "renamed" => format!("{visibility}use super::{module}::{name} as {};", one_of(&["One", "Two", "Five"])),
-        _ => format!("{visibility}use crate::{module}::*;"),
+    let (module, name) = (one_of(&MODULES), one_of(&NAMES));
+    let is_item = |it: &String| !it.contains("use ") && it.contains(name);
+    match one_of(&["struct", "tuple", "enum", "fn", "import", "import", "named", "named"]) {
+        "import" => format!("{visibility}use super::{module}::{name} as As{number};"),
+        "named" => format!("{visibility}use crate::{module}::{name};"),
+        _ if others.iter().any(is_item) => format!("{visibility}fn alone_{number}() {{}}"),
+        "struct" => format!("{visibility}struct {name};"),
+        "tuple" => format!("{visibility}struct {name}(u8);"),
+        "enum" => format!("{visibility}enum {name} {{ A }}"),
+        _ => format!("{visibility}fn {name}() {{}}"),
     }
 }
 
 #[test]
 fn random_edits_of_items_and_imports() {
-    let names = ["a", "b", "c", "d"];
     let mut dice = Dice(46);
     let (mut by_imports, mut of_files) = (0, 0);
-    for session in 0..12 {
-        let mut lines: Vec<Vec<String>> = names.map(|_| (0..4).map(|_| random_line(&mut dice)).collect()).into();
+    for session in 0..8 {
+        let mut files: Vec<Vec<String>> = vec![Vec::new(); MODULES.len()];
+        for (at, lines) in files.iter_mut().enumerate() {
+            if session % 4 > at {
+                lines.push(format!("pub use super::{}::*;", MODULES[dice.below(MODULES.len())]));
+            }
+            (0..6).for_each(|number| lines.push(random_line(lines, number, &mut dice)));
+        }
         let text = |lines: &[String]| lines.iter().map(|it| format!("{it}\n")).collect::<String>();
         let folder = package(&[("src/lib.rs", "mod a;\npub mod b;\nmod c;\nmod d;\n")]);
-        let path = |at: usize| folder.path().join(format!("src/{}.rs", names[at]));
-        (0..names.len()).for_each(|at| std::fs::write(path(at), text(&lines[at])).unwrap());
+        let path = |at: usize| folder.path().join(format!("src/{}.rs", MODULES[at]));
+        (0..MODULES.len()).for_each(|at| std::fs::write(path(at), text(&files[at])).unwrap());
         let mut spaces = [open(folder.path()), open(folder.path())];
         let mut watched = open_brief(folder.path());
         watched.report().unwrap();
-        for round in 0..40 {
-            let at = dice.below(names.len());
-            if lines[at].len() > 2 && dice.below(2) == 0 {
-                let line = dice.below(lines[at].len());
-                lines[at].remove(line);
+        for round in 0..30 {
+            let at = dice.below(MODULES.len());
+            let lines = &mut files[at];
+            // A glob at the beginning stays.
+            if lines.len() > 4 && dice.below(2) == 0 {
+                lines.remove(1 + dice.below(lines.len() - 1));
             } else {
-                let line = dice.below(lines[at].len() + 1);
-                lines[at].insert(line, random_line(&mut dice));
+                lines.insert(1 + dice.below(lines.len()), random_line(lines, 10 + round, &mut dice));
             }
-            let (path, text) = (path(at).canonicalize().unwrap(), text(&lines[at]));
-            let why = format!("session {session}, round {round}, {}: {lines:#?}", names[at]);
+            let (path, text) = (path(at).canonicalize().unwrap(), text(lines));
+            let why = format!("session {session}, round {round}, {}: {files:#?}", MODULES[at]);
             by_imports += usize::from(known(&mut spaces, &path, &text, &why) == BY_IMPORTS);
             std::fs::write(&path, &text).unwrap();
             let ahead = watched.report_of_file(&path).unwrap();
@@ -273,7 +279,7 @@ fn random_edits_of_items_and_imports() {
             of_files += usize::from(ahead.is_some());
         }
     }
-    assert!(by_imports > 40 && of_files > 40, "{by_imports} {of_files}");
+    assert!(by_imports > 20 && of_files > 20, "{by_imports} {of_files}");
 }
 
 /// What calls are given is looked up too, as the name of a file that another macro writes.
