@@ -238,11 +238,18 @@ fn random_line(others: &[String], number: usize, dice: &mut Dice) -> String {
     }
 }
 
+/// The module and the name to which an import leads, if it is one of a name.
+fn imported(line: &str) -> Option<(usize, String)> {
+    let (module, rest) = line.split_once("::")?.1.split_once("::")?;
+    let name = rest.split([' ', ';']).next().filter(|it| *it != "*")?;
+    Some((MODULES.iter().position(|it| *it == module)?, name.to_owned()))
+}
+
 #[test]
 fn random_edits_of_items_and_imports() {
     let mut dice = Dice(46);
     let (mut by_imports, mut of_files) = (0, 0);
-    for session in 0..8 {
+    for session in 0..6 {
         let mut files: Vec<Vec<String>> = vec![Vec::new(); MODULES.len()];
         for (at, lines) in files.iter_mut().enumerate() {
             if session % 4 > at {
@@ -257,17 +264,22 @@ fn random_edits_of_items_and_imports() {
         let mut spaces = [open(folder.path()), open(folder.path())];
         let mut watched = open_brief(folder.path());
         watched.report().unwrap();
-        for round in 0..30 {
-            let at = dice.below(MODULES.len());
-            let lines = &mut files[at];
-            // A glob at the beginning stays, and seldom an import goes.
-            let line = 1 + dice.below(lines.len() - 1);
-            if lines.len() > 4 && dice.below(2) == 0 && (!lines[line].contains("use ") || dice.below(4) == 0) {
-                lines.remove(line);
+        for round in 0..25 {
+            let imported: Vec<(usize, String)> = files.iter().flatten().filter_map(|it| imported(it)).collect();
+            let mut at = dice.below(MODULES.len());
+            if imported.is_empty() || dice.below(5) == 0 {
+                let line = random_line(&files[at], 10 + round, &mut dice);
+                files[at].push(line);
             } else {
-                lines.insert(1 + dice.below(lines.len()), random_line(lines, 10 + round, &mut dice));
+                // An item that an import names comes, or goes where it is.
+                let (of, name) = &imported[dice.below(imported.len())];
+                at = *of;
+                match files[at].iter().position(|it| !it.contains("use ") && it.contains(&**name)) {
+                    Some(line) => drop(files[at].remove(line)),
+                    None => files[at].push(format!("pub{} struct {name};", ["", "", "(crate)"][dice.below(3)])),
+                }
             }
-            let (path, text) = (path(at).canonicalize().unwrap(), text(lines));
+            let (path, text) = (path(at).canonicalize().unwrap(), text(&files[at]));
             let why = format!("session {session}, round {round}, {}: {files:#?}", MODULES[at]);
             by_imports += usize::from(known(&mut spaces, &path, &text, &why) == BY_IMPORTS);
             std::fs::write(&path, &text).unwrap();
@@ -280,7 +292,7 @@ fn random_edits_of_items_and_imports() {
             of_files += usize::from(ahead.is_some());
         }
     }
-    assert!(by_imports > 15 && of_files > 10, "{by_imports} {of_files}");
+    assert!(by_imports > 30 && of_files > 30, "{by_imports} {of_files}");
 }
 
 /// What calls are given is looked up too, as the name of a file that another macro writes.
