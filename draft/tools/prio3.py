@@ -10,11 +10,11 @@ while True:
             if "rt-copy" in cwd or "rt-edit" in cwd: continue
             v = None
             if "callgrind" in n or "valgrind" in n: v = 5
-            elif "rattle-try" in n or "clang" in n: v = -8 if "/work/clones/tests" in cwd or "/work/clones/eager" in cwd or os.path.exists("/work/fasttry") else 2
+            elif "rattle-try" in n or "clang" in n: v = -8 if os.path.exists("/work/fasttry") else 2
             elif n.endswith("/rattle") or "antt-kern" in n:
                 name = c[c.index("--crate-name")+1] if "--crate-name" in c else ""
                 top = open("/work/topcrates").read().split()
-                v = -15 if name in top else -11 if "/work/clones/tests/" in cwd else 0 if name.endswith(("_rows","_tests")) else -7 if any(f"/work/clones/{e}/" in cwd for e in ("tests", "lower", "path", "m1", "wb", "fin")) else 3
+                v = -15 if name in top else -11 if "/work/clones/tests/" in cwd else 0 if name.endswith(("_rows","_tests")) else -7 if any(f"/work/clones/{e}/" in cwd for e in ("path", "globs", "wb", "wb5", "fin", "low", "costs")) else 3
             elif "hir_session_main" in n and "front" not in cwd or "python3" in n and any(w in " ".join(c) for w in ("import_model","random_sessions","soak","bench/")): v = 6
             if v is None: continue
             for t in os.listdir(f"/proc/{d}/task"):
