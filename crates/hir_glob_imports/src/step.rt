@@ -5,6 +5,7 @@ ghost use Rattle.hir_glob_imports.specs.Inner.{IsKeptBut, Takes};
 ghost use Rattle.hir_glob_imports.specs.Rules.{after, copies_along, follows_along, noted, IsSpent};
 ghost use Rattle.hir_glob_imports.specs.Waves.{brought_of, update_in, state_of, IsKept};
 
+use crate::brought::write_brought;
 use crate::edge::{Bound, Brought, Edge, Slot, Update};
 use crate::glob_imports::GlobImports;
 use crate::names::Names;
@@ -57,8 +58,7 @@ impl GlobImports {
         if slot.key.is_unnamed() {
             return Ok(());
         }
-        self.brought.insert(slot.clone()?, by)?;
-        Ok(())
+        write_brought(self.alloc, &mut self.brought, slot, Some(by))
     }
 
     /// Copies what the source of an edge shows.
