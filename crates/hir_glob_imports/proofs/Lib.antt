@@ -1,5 +1,5 @@
 pub mod Exact
-pub mod ByName
+pub mod ByModule
 pub mod EdgeLists
 pub mod Settling
 pub mod Updates

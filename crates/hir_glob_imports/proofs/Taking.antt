@@ -11,7 +11,7 @@ use Rattle.hir_scope.specs.HirPerNs.contracts.visibility.VisibilityEq.TheImpl.La
 use Rattle.hir_scope.specs.HirPerNs.declared.visibility.Visibility.{Visibility}
 use Rattle.hir_glob_imports.specs.contracts.edge.BoundEq.TheImpl.Laws.{laws-law as bound_laws}
 use Rattle.std.specs.Ordering.{nat_cmp}
-use Rattle.hir_glob_imports.specs.ByName.{brought_in}
+use Rattle.hir_glob_imports.specs.ByModule.{brought_in}
 use Rattle.hir_glob_imports.specs.Types.{Bound, Brought, Edge, Key, Slot}
 use Rattle.hir_glob_imports.specs.declared.edge.Update.TheVariants.{Nothing, Copy, Follow, Raise}
 use Rattle.hir_glob_imports.specs.declared.step.TheConstants.{MAX_STEPS}

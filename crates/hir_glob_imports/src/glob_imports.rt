@@ -5,7 +5,7 @@ ghost use Rattle.hir_glob_imports.specs.declared.edge.Key.{Key};
 ghost use Rattle.hir_glob_imports.specs.Rules.{with_brought, noted};
 ghost use Rattle.hir_glob_imports.specs.Waves.{brought_of, has_same_ends};
 
-use crate::brought::{BroughtNames, brought_at};
+use crate::brought::{BroughtKeys, SeenCache, brought_at};
 use crate::edge::{Brought, Edge, Key, Slot, Target};
 use crate::index::EdgesByModule;
 use std::alloc::{AllocError, Global};
@@ -15,7 +15,8 @@ use std::marker::Model;
 /// The globs of a map that were recorded, what each brought, and where changes have yet to go along them.
 pub struct GlobImports {
     pub(crate) edges: Vec<Edge>,
-    pub(crate) brought: BTreeMap<u32, BroughtNames>,
+    pub(crate) brought: BTreeMap<u32, BroughtKeys>,
+    pub(crate) cache: SeenCache,
     pub(crate) pending: Vec<(usize, Key)>,
     pub(crate) out_of: EdgesByModule,
     pub(crate) into: EdgesByModule,
@@ -27,6 +28,7 @@ impl Drop for GlobImports {
         let GlobImports {
             edges: _,
             brought: _,
+            cache: _,
             pending: _,
             out_of: _,
             into: _,
@@ -56,6 +58,7 @@ impl GlobImports {
         GlobImports {
             edges: Vec::new(alloc),
             brought: BTreeMap::new(alloc),
+            cache: SeenCache::new(alloc),
             pending: Vec::new(alloc),
             out_of: EdgesByModule::new(alloc),
             into: EdgesByModule::new(alloc),

@@ -11,7 +11,7 @@ ghost use Rattle.hir_glob_imports.specs.Rules.{with_brought};
 ghost use Rattle.hir_glob_imports.specs.View.{View};
 ghost use Rattle.hir_glob_imports.specs.Waves.{brought_of, IsExplicit, IsKept, Stands};
 
-use crate::brought::write_brought;
+use crate::brought::forget_brought;
 use crate::edge::{Edge, Key, Slot};
 use crate::glob_imports::GlobImports;
 use crate::index::EdgesByModule;
@@ -85,19 +85,6 @@ impl GlobImports {
         add_each(&mut self.pending, self.out_of.at(slot.at), &slot.key)
     }
 
-    /// No glob has brought what stands in a slot.
-    fn forget(&mut self, slot: &Slot) -> Result<(), AllocError>
-        ensures edges { self.new.edges ≡ self.old.edges }
-        ensures pending { self.new.pending ≡ self.old.pending }
-        ensures brought { OnOk result (brought_of self.new ≡ with_brought (brought_of self.old) slot.now None) }
-    {
-        if self.brought(slot).is_some() {
-            write_brought(self.alloc, &mut self.brought, slot, None)
-        } else {
-            Ok(())
-        }
-    }
-
     /// A slot was bound explicitly, or a trait without a name came or is seen by more: no glob has brought what stands
     /// there, and the edges around it have to be looked at.
     pub fn changed(&mut self, slot: &Slot) -> Result<(), AllocError>
@@ -105,7 +92,7 @@ impl GlobImports {
         ensures brought { OnOk result (brought_of self.new ≡ with_brought (brought_of self.old) slot.now None) }
         ensures kept { OnOk result ((v w : View) → IsKept v self.old → IsExplicit slot.now v w → IsKept w self.new) }
     {
-        self.forget(slot)?;
+        forget_brought(&mut self.brought, slot);
         self.spread(slot, slot.key.is_unnamed())
     }
 

@@ -64,7 +64,7 @@ module _ {M N : Type 0} (first : M → M → Ordering) (second : N → N → Ord
   insert-apart k [] rest q = refl
   insert-apart k (x ∷ xs) rest q =
       ap (λ o. match_ordering (ordering_then o (second n x)) ((m, n) ∷ (k, x) ∷ (map (λ y. (k, y)) xs ++ rest)) ((k, x) ∷ (map (λ y. (k, y)) xs ++ rest))
-          ((k, x) ∷ insert_key (pair_cmp first second) (map (λ y. (k, y)) xs ++ rest) (m, n))) q
+      ((k, x) ∷ insert_key (pair_cmp first second) (map (λ y. (k, y)) xs ++ rest) (m, n))) q
       ∙ ap (λ ps. (k, x) ∷ ps) (insert-apart k xs rest q)
 
   insert-same : (xs : List N) (rest : List (M × N)) → first m m ≡ Equal
@@ -73,7 +73,7 @@ module _ {M N : Type 0} (first : M → M → Ordering) (second : N → N → Ord
   insert-same [] rest q behind = behind
   insert-same (x ∷ xs) rest q behind =
       ap (λ o. match_ordering (ordering_then o (second n x)) ((m, n) ∷ (m, x) ∷ (map (λ y. (m, y)) xs ++ rest)) ((m, x) ∷ (map (λ y. (m, y)) xs ++ rest))
-          ((m, x) ∷ insert_key (pair_cmp first second) (map (λ y. (m, y)) xs ++ rest) (m, n))) q
+      ((m, x) ∷ insert_key (pair_cmp first second) (map (λ y. (m, y)) xs ++ rest) (m, n))) q
       ∙ go (second n x)
     where
       go : (o : Ordering)
@@ -90,7 +90,7 @@ module _ {M N : Type 0} (first : M → M → Ordering) (second : N → N → Ord
   remove-apart k [] rest apart = refl
   remove-apart k (x ∷ xs) rest apart =
       ap (λ b. cond b (map (λ y. (k, y)) xs ++ rest) ((k, x) ∷ remove_key (is_at (pair_cmp first second (m, n))) (map (λ y. (k, y)) xs ++ rest)))
-          (go (first m k) apart)
+      (go (first m k) apart)
       ∙ ap (λ ps. (k, x) ∷ ps) (remove-apart k xs rest apart)
     where
       go : (o : Ordering) → is_eq o ≡ false → is_eq (ordering_then o (second n x)) ≡ false
@@ -104,7 +104,7 @@ module _ {M N : Type 0} (first : M → M → Ordering) (second : N → N → Ord
   remove-same k [] rest q behind = behind
   remove-same k (x ∷ xs) rest q behind =
       ap (λ o. cond (is_eq (ordering_then o (second n x))) (map (λ y. (k, y)) xs ++ rest)
-          ((k, x) ∷ remove_key (is_at (pair_cmp first second (m, n))) (map (λ y. (k, y)) xs ++ rest))) q
+      ((k, x) ∷ remove_key (is_at (pair_cmp first second (m, n))) (map (λ y. (k, y)) xs ++ rest))) q
       ∙ go (is_eq (second n x))
     where
       go : (b : Bool)
@@ -131,8 +131,8 @@ module _ {M N : Type 0} (first : M → M → Ordering) (second : N → N → Ord
         go [] = insert-below es below.1
         go (x ∷ xs) =
             ap (λ o. match_ordering (ordering_then o (second n x)) ((m, n) ∷ (e.0, x) ∷ (map (λ y. (e.0, y)) xs ++ pairs_of things es))
-                ((e.0, x) ∷ (map (λ y. (e.0, y)) xs ++ pairs_of things es))
-                ((e.0, x) ∷ insert_key (pair_cmp first second) (map (λ y. (e.0, y)) xs ++ pairs_of things es) (m, n))) below.0
+            ((e.0, x) ∷ (map (λ y. (e.0, y)) xs ++ pairs_of things es))
+            ((e.0, x) ∷ insert_key (pair_cmp first second) (map (λ y. (e.0, y)) xs ++ pairs_of things es) (m, n))) below.0
 
 -- ---- all keys
 
@@ -159,10 +159,10 @@ module _ {M N E : Type 0} (first : M → M → Ordering) (total : IsTotalOrder f
       go Less q = any_apart first second m n e.0 (things e.1) (pairs_of things es) (ap is_eq q)
           ∙ any-below first second m n things es (weaker e.0 (keys_of es) q (sorted_head first e.0 (keys_of es) s))
           ∙ sym (ap (λ o. list_any (is_at (second n)) (things_or_none things o))
-              (lookup-below first m es (weaker e.0 (keys_of es) q (sorted_head first e.0 (keys_of es) s))))
+          (lookup-below first m es (weaker e.0 (keys_of es) q (sorted_head first e.0 (keys_of es) s))))
       go Equal q = any_same first second m n e.0 (things e.1) (pairs_of things es) q
           ∙ ap (λ b. list_any (is_at (second n)) (things e.1) || b)
-              (any-below first second m n things es (alike e.0 (keys_of es) q (sorted_head first e.0 (keys_of es) s)))
+          (any-below first second m n things es (alike e.0 (keys_of es) q (sorted_head first e.0 (keys_of es) s)))
           ∙ nothing_more (list_any (is_at (second n)) (things e.1))
         where
           nothing_more : (b : Bool) → (b || false) ≡ b
@@ -189,9 +189,9 @@ module _ {M N E : Type 0} (first : M → M → Ordering) (total : IsTotalOrder f
           let same_first : first m m ≡ Equal = ap (first m) same ∙ q in
           let what : old ≡ e.1 = ap (λ (o : Option E). value_or e.1 o) (sym f) in
           subst (λ k. insert_key (pair_cmp first second) (map (λ x. (k, x)) (things e.1) ++ pairs_of things es) (m, n)
-              ≡ map (λ x. (k, x)) (things new) ++ pairs_of things es) same
+          ≡ map (λ x. (k, x)) (things new) ++ pairs_of things es) same
           (insert-same first second m n (things e.1) (pairs_of things es) same_first behind
-              ∙ ap (λ xs. map (λ x. (m, x)) xs ++ pairs_of things es) (sym (made ∙ ap (λ y. insert_key second (things y) n) what)))
+          ∙ ap (λ xs. map (λ x. (m, x)) xs ++ pairs_of things es) (sym (made ∙ ap (λ y. insert_key second (things y) n) what)))
           ∙ sym (ap (λ o. pairs_of things (cond (is_eq o) ((e.0, new) ∷ es) (e ∷ set_value (is_at (first m)) es new))) q)
         where
           value_or : E → Option E → E

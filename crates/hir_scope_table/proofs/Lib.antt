@@ -13,3 +13,5 @@ pub mod Revisions
 pub mod Names
 pub mod ByModule
 pub mod NamesByModule
+pub mod GapLists
+pub mod GapMaps

@@ -4,7 +4,8 @@ use mathlib.Core.Bool.{true≢false}
 use Rattle.std.specs.Option.{is_some}
 use Rattle.std.specs.declared.cmp.Ordering.{Ordering}
 use Rattle.std.specs.declared.cmp.Ordering.TheVariants.{Less, Equal, Greater}
-use Rattle.std.specs.BTreeMap.{is_at}
+use Rattle.std.specs.BTreeMap.{is_at, insert_entry}
+use Rattle.std.specs.BTreeSet.{insert_key}
 use Rattle.std.specs.Cmp.{IsTotalOrder, on_total, then_total}
 use Rattle.std.specs.Cmp.Lexicographic.{slice_cmp}
 use Rattle.std.specs.List.{list_any}
@@ -22,13 +23,12 @@ use Rattle.hir_ids.specs.contracts.ids.ModuleIdOrd.TheImpl.Laws.{total-law as mo
 use Rattle.hir_ids.specs.declared.ast_id.BlockId.{BlockId}
 use Rattle.hir_ids.specs.declared.ids.MapId.{MapId}
 use Rattle.hir_ids.specs.declared.ids.ModuleId.{ModuleId}
-use Rattle.hir_scope_table.specs.Entries.{item_at, with_some_entry}
+use Rattle.hir_scope_table.specs.Entries.{has_key, item_at}
 use Rattle.hir_scope_table.specs.Globs.{Place, place_cmp, has_place}
 use Rattle.hir_scope_table.specs.Inner.Places.{Names, names_in, places_of}
-use Rattle.hir_scope_table.specs.Inner.Reserved.{IsKeyFor}
-use Rattle.hir_scope_table.specs.Slots.{Slots, named, values_in}
+use Rattle.hir_scope_table.specs.Inner.Reserved.{IsEntryFor, IsKeyFor}
 use Rattle.hir_scope_table.proofs.ByModule.{any_of, things_or_none}
-use Rattle.hir_scope_table.proofs.Slots.{in_slot-sorted, keys_of-insert, list_any-keys, with_entry-insert}
+use Rattle.hir_scope_table.proofs.Slots.{keys_of-insert, list_any-keys}
 
 -- ---- modules that compare as equal are one
 
@@ -70,27 +70,23 @@ place_total = then_total (on_total (λ (p : Place). p.0) module_total) (on_total
 
 -- ---- the names of one module
 
-pub sorted_names : (names : Names) → IsStrictlySortedBy (slice_cmp nat_cmp) (keys_of names) → IsStrictlySortedBy (slice_cmp nat_cmp) (names_in names)
-sorted_names names sorted = in_slot-sorted (slice_cmp nat_cmp) (λ (s : Slots (Unit {0}) (Unit {0}) (Unit {0})). s.values) names sorted
+has_name : (names : Names) (name : List ℕ) → list_any (is_at (slice_cmp nat_cmp name)) (names_in names) ≡ is_some (item_at names name)
+has_name names name = list_any-keys (slice_cmp nat_cmp) (is_at (slice_cmp nat_cmp name)) names
 
-has_name : (names : Names) (name : List ℕ) → list_any (is_at (slice_cmp nat_cmp name)) (names_in names) ≡ is_some (item_at (values_in names) name)
-has_name names name = list_any-keys (slice_cmp nat_cmp) (is_at (slice_cmp nat_cmp name)) (values_in names)
-
--- a name that is there
-pub name_there : (names : Names) (name : List ℕ) → is_some (item_at (values_in names) name) ≡ true
-    → IsKeyFor (slice_cmp nat_cmp) (names_in names) name true false (names_in names)
-name_there names name there = record { made = refl; was_absent = sym (ap not (has_name names name ∙ there)) }
-
--- a name that is added
-pub name_added : (old new : Names) (name : List ℕ) → IsStrictlySortedBy (slice_cmp nat_cmp) (keys_of old)
-    → is_some (item_at (values_in old) name) ≡ false → values_in new ≡ with_some_entry (slice_cmp nat_cmp) (values_in old) (named name (Some tt))
-    → IsKeyFor (slice_cmp nat_cmp) (names_in old) name true true (names_in new)
-name_added old new name sorted none is = record {
-  made =
-      ap keys_of (is ∙ with_entry-insert (slice_cmp nat_cmp) nat_list_cmp_total (values_in old) name tt (sorted_names old sorted))
-      ∙ keys_of-insert (slice_cmp nat_cmp) (values_in old) name tt;
-  was_absent = sym (ap not (has_name old name ∙ none));
+-- a name that is added, unless it was there
+pub name_added : (old new : Names) (name : List ℕ) (added : Bool) → IsEntryFor (slice_cmp nat_cmp) old (Some (name, tt)) added new
+    → IsKeyFor (slice_cmp nat_cmp) (names_in old) name true added (names_in new)
+name_added old new name added entry = record {
+  made = ap keys_of entry.made ∙ go added (has_key (slice_cmp nat_cmp) old name) entry.was_absent;
+  was_absent = entry.was_absent ∙ sym (ap not (has_name old name));
 }
+  where
+    go : (a b : Bool) → a ≡ not b
+        → keys_of (cond b old (insert_entry (slice_cmp nat_cmp) old name tt)) ≡ cond a (insert_key (slice_cmp nat_cmp) (keys_of old) name) (keys_of old)
+    go true true e = absurd (true≢false e)
+    go true false e = keys_of-insert (slice_cmp nat_cmp) old name tt
+    go false true e = refl
+    go false false e = absurd (true≢false (sym e))
 
 -- a name that is taken out
 keys_of-remove : {K X : Type 0} (test : K → Bool) (xs : List (K × X)) → keys_of (remove_entry test xs) ≡ remove_key test (keys_of xs)
@@ -101,15 +97,15 @@ keys_of-remove {K} {X} test (x ∷ xs) = go (test x.0)
     go true = refl
     go false = ap (λ ks. x.0 ∷ ks) (keys_of-remove test xs)
 
-pub name_removed : (old new : Names) (name : List ℕ) → values_in new ≡ remove_entry (is_at (slice_cmp nat_cmp name)) (values_in old)
+pub name_removed : (old new : Names) (name : List ℕ) → new ≡ remove_entry (is_at (slice_cmp nat_cmp name)) old
     → names_in new ≡ remove_key (is_at (slice_cmp nat_cmp name)) (names_in old)
-name_removed old new name is = ap keys_of is ∙ keys_of-remove (is_at (slice_cmp nat_cmp name)) (values_in old)
+name_removed old new name is = ap keys_of is ∙ keys_of-remove (is_at (slice_cmp nat_cmp name)) old
 
 -- ---- places by module
 
 has_name_in : Option Names → List ℕ → Bool
 has_name_in None name = false
-has_name_in (Some names) name = is_some (item_at (values_in names) name)
+has_name_in (Some names) name = is_some (item_at names name)
 
 pub has_place_in : (es : List (ModuleId × Names)) (at : Place) (o : Option Names) → IsStrictlySortedBy module_id.ghosts.cmp (keys_of es)
     → o ≡ lookup (is_at (module_id.ghosts.cmp at.0)) es → has_name_in o at.1 ≡ has_place (places_of es) at

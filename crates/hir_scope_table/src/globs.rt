@@ -12,17 +12,16 @@ ghost use Rattle.hir_scope_table.specs.Entries.{item_at};
 ghost use Rattle.hir_scope_table.specs.Globs.{Place, place_cmp, has_place, without_place};
 ghost use Rattle.hir_scope_table.specs.Inner.Places.{names_in, places_of, AreNamesSorted};
 ghost use Rattle.hir_scope_table.specs.Inner.Reserved.{IsKeyFor};
-ghost use Rattle.hir_scope_table.specs.Slots.{values_in};
 
-use crate::entry_list::EntryList;
+use crate::gap_map::GapMap;
 use hir_ids::ids::ModuleId;
 use hir_ids::name::Name;
 use std::alloc::{AllocError, Global};
 use std::collections::BTreeMap;
 use std::marker::Model;
 
-/// Names that have a value, and nothing else.
-type Names = EntryList<(), (), ()>;
+/// Names, and nothing else.
+type Names = GapMap<Name, ()>;
 
 /// The names of modules that stand for what a glob brought.
 #[derive(Drop)]
@@ -102,13 +101,10 @@ impl Globs {
     }
 }
 
-fn has_value(names: &Names, name: &Name) -> bool
-    ensures value { result ≡ is_some (item_at (values_in names.now) name.now) }
+fn has_name(names: &Names, name: &Name) -> bool
+    ensures value { result ≡ is_some (item_at names.now name.now) }
 {
-    match names.get(name) {
-        Some(entry) => entry.values().is_some(),
-        None => false,
-    }
+    names.get(name).is_some()
 }
 
 fn is_among(modules: &BTreeMap<ModuleId, Names>, at: &(ModuleId, Name)) -> bool
@@ -116,7 +112,7 @@ fn is_among(modules: &BTreeMap<ModuleId, Names>, at: &(ModuleId, Name)) -> bool
 {
     let _ = modules.len();
     match modules.get(&at.0) {
-        Some(names) => has_value(names, &at.1),
+        Some(names) => has_name(names, &at.1),
         None => false,
     }
 }
@@ -127,13 +123,9 @@ fn add_among(names: &mut Names, name: &Name) -> Result<bool, AllocError>
     ensures err { OnErr result (names.new ≡ names.old) }
     ensures sorted { IsStrictlySortedBy (slice_cmp nat_cmp) (names_in names.new) }
 {
-    names.is_kept();
-    if has_value(names, name) {
-        return Ok(false);
-    }
-    names.write(name, None, Some(()), None)?;
-    names.is_kept();
-    Ok(true)
+    let added = names.add(name.clone()?, ())?;
+    names.is_ordered();
+    Ok(added)
 }
 
 /// Adds a place, unless it is there; says whether it was added.
@@ -176,8 +168,8 @@ fn remove_among(names: &mut Names, name: &Name)
     ensures value { names_in names.new ≡ remove_key (is_at (slice_cmp nat_cmp name.now)) (names_in names.old) }
     ensures sorted { IsStrictlySortedBy (slice_cmp nat_cmp) (names_in names.new) }
 {
-    names.remove_value(name);
-    names.is_kept();
+    names.remove(name);
+    names.is_ordered();
 }
 
 /// Takes out a place.

@@ -13,6 +13,8 @@ pub use hir_scope_item::item;
 
 pub mod entry;
 pub mod entry_list;
+pub mod gap_list;
+pub mod gap_map;
 pub mod globs;
 pub mod laws;
 pub mod merge_sorted;

@@ -4,8 +4,8 @@ ghost use Rattle.hir_scope_table.specs.Entries.{with_some_entry};
 ghost use Rattle.hir_scope_table.specs.Inner.Reserved.{IsEntryFor};
 
 use std::alloc::AllocError;
-use std::collections::btree_map::Entry;
 use std::collections::BTreeMap;
+use std::collections::btree_map::Entry;
 
 /// What was added to the records and to the glob table before a candidate is written.
 #[derive(Clone, Copy)]

@@ -8,7 +8,6 @@ use Rattle.std.specs.Cmp.Lexicographic.{slice_cmp}
 use Rattle.std.specs.declared.cmp.Ordering.{Ordering}
 use Rattle.hir_ids.specs.declared.ids.ModuleId.{ModuleId}
 use Rattle.hir_scope_table.specs.Globs.{Place}
-use Rattle.hir_scope_table.specs.Slots.{NamedSlots, values_in}
 
 -- the pairs that lists of things make, which are kept by their first parts
 abbrev pub pairs_of : {M N E : Type 0} → (E → List N) → List (M × E) → List (M × N)
@@ -19,12 +18,12 @@ pairs_of things (e ∷ es) = map (λ x. (e.0, x)) (things e.1) ++ pairs_of thing
 abbrev pub pair_cmp : {M N : Type 0} → (M → M → Ordering) → (N → N → Ordering) → M × N → M × N → Ordering
 pair_cmp first second a b = ordering_then (first a.0 b.0) (second a.1 b.1)
 
--- the names of a module that have a value
+-- the names of a module, each with nothing
 abbrev pub Names : Type 0
-Names = NamedSlots Unit Unit Unit
+Names = List (List ℕ × Unit {0})
 
 abbrev pub names_in : Names → List (List ℕ)
-names_in names = keys_of (values_in names)
+names_in names = keys_of names
 
 -- the places that the names of modules are
 abbrev pub places_of : List (ModuleId × Names) → List Place

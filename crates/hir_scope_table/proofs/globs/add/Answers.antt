@@ -22,9 +22,9 @@ returns-in-Some-clause-ok c =
     if_ok c.add_among.result (λ added. IsKeyFor (slice_cmp nat_cmp) (names_in c.in-Some.names.now) at.1 true added (names_in new))
     (λ added. IsKeyFor place_cmp (places_of es) at true added (places_of (c.get_mut.follows.lender new).entries))
     (λ added key. subst (λ (fs : List (ModuleId × Names)). IsKeyFor place_cmp (places_of es) at true added (places_of fs))
-        (sym (c.get_mut.follows.holds new).0)
-        (key_there module_id.ghosts.cmp module_total exact_module (slice_cmp nat_cmp) names_in at.0 at.1 es c.in-Some.names.now new added
-        c.get_mut.ensures.ordered (sym c.in-Some.ensures.value) key))
+    (sym (c.get_mut.follows.holds new).0)
+    (key_there module_id.ghosts.cmp module_total exact_module (slice_cmp nat_cmp) names_in at.0 at.1 es c.in-Some.names.now new added
+    c.get_mut.ensures.ordered (sym c.in-Some.ensures.value) key))
     c.add_among.ensures.ok
 
 pub returns-in-Some-clause-err : goal.returns-in-Some-clause-err
@@ -33,7 +33,7 @@ returns-in-Some-clause-err c =
     let new = c.add_among.new.names in
     on_err c.add_among.result (new ≡ c.in-Some.names.now) (places_of (c.get_mut.follows.lender new).entries ≡ places_of es)
     (λ same. ap places_of ((c.get_mut.follows.holds new).0
-        ∙ set_value_same (is_at (module_id.ghosts.cmp c.args.at.now.0)) es new (sym c.in-Some.ensures.value ∙ ap Some (sym same))))
+    ∙ set_value_same (is_at (module_id.ghosts.cmp c.args.at.now.0)) es new (sym c.in-Some.ensures.value ∙ ap Some (sym same))))
     c.add_among.ensures.err
 
 pub returns-in-Some-clause-sorted : goal.returns-in-Some-clause-sorted
