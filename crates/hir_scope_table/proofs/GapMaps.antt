@@ -1,5 +1,5 @@
 -- What the place where a key belongs says of the map that the entries are.
-use Rattle.std.proofs.Common.{◌≡◌, ◌∙◌, ap, sym, ℕ, zero, suc, true, false, Bool, not, List, [], ◌∷◌, refl, Option, None, Some, cond, get_or, unwrap_or}
+use Rattle.std.proofs.Common.{◌≡◌, ◌∙◌, ap, sym, subst, ℕ, zero, suc, true, false, Bool, not, List, [], ◌∷◌, refl, Option, None, Some, cond, get_or, unwrap_or, Result, Ok, Err, OnOk, OnErr}
 use mathlib.Core.Bool.{true≢false}
 use Rattle.std.specs.Option.{is_some}
 use Rattle.std.specs.declared.cmp.Ordering.{Ordering}
@@ -18,7 +18,7 @@ use Rattle.hir_scope_table.specs.Inner.Reserved.{IsEntryFor}
 use Rattle.hir_scope_table.proofs.Places.{there_is, where_found, where_missing, insert_at_place, set_at_place, remove_at_place, lookup_at_place}
 use Rattle.hir_scope_table.proofs.Places.{nothing_at_place}
 use Rattle.hir_scope_table.proofs.Lookups.{lookup-with_entry}
-use Rattle.hir_scope_table.proofs.Slots.{lookup-below, with_entry-insert}
+use Rattle.hir_scope_table.proofs.Slots.{insert-sorted, lookup-below, with_entry-insert}
 
 read_there : {X : Type 0} (xs : List X) (i : ℕ) (x d : X) → slice_get xs i ≡ Some x → get_or xs i d ≡ x
 read_there [] i x d f = absurd (true≢false (sym (ap is_some f)))
@@ -35,35 +35,38 @@ remove_absent {K} {V} test (e ∷ es) h = go (test e.0) h (remove_absent test es
     go true f rest = absurd (true≢false (ap is_some f))
     go false f rest = ap (λ (xs : List (K × V)). e ∷ xs) (rest f)
 
-module _ {K V : Type 0} (cmp : K → K → Ordering) (total : IsTotalOrder cmp) where
+no_value : {V : Type 0} (b : Bool) (o : Option V) → o ≡ None → o ≡ cond b None o
+no_value true o none = none
+no_value false o none = refl
+
+is_equal : (r : Ordering) → is_eq r ≡ true → r ≡ Equal
+is_equal Less h = absurd (true≢false (sym h))
+is_equal Equal h = refl
+is_equal Greater h = absurd (true≢false (sym h))
+
+module _ {K : Type 0} (cmp : K → K → Ordering) (total : IsTotalOrder cmp) where
   laws : IsEquivalence (eq_by_cmp cmp)
   laws = eq_by_cmp_equiv total
 
-  -- what is found once an entry is put in
-  pub lookup_put : (es : List (K × V)) (k : K) (v : V) → IsStrictlySortedBy cmp (keys_of es) → (q : K)
-      → lookup (is_at (cmp q)) (insert_entry cmp es k v) ≡ cond (is_eq (cmp k q)) (Some v) (lookup (is_at (cmp q)) es)
-  lookup_put es k v sorted q =
-      ap (lookup (is_at (cmp q))) (sym (with_entry-insert cmp total es k v sorted)) ∙ lookup-with_entry cmp total es k v q
-
-  -- keys that are equal to one are below the keys that it is below
+  -- a key that is equal to one is below the keys that it is below
   alike_below : (x q : K) (ks : List K) → cmp x q ≡ Equal → AllByRecursion (λ y. cmp x y ≡ Less) ks → AllByRecursion (λ y. cmp q y ≡ Less) ks
   alike_below x q [] same h = tt
   alike_below x q (y ∷ ys) same h = (sym (total.congr x q y same) ∙ h.0, alike_below x q ys same h.1)
 
-  is_equal : (r : Ordering) → is_eq r ≡ true → r ≡ Equal
-  is_equal Less h = absurd (true≢false (sym h))
-  is_equal Equal h = refl
-  is_equal Greater h = absurd (true≢false (sym h))
+  pub nothing_sorted : {V : Type 0} (es : List (K × V)) → es ≡ [] → IsStrictlySortedBy cmp (keys_of es)
+  unfolding IsStrictlySortedBy
+  nothing_sorted {V} es none = subst (λ (xs : List (K × V)). IsStrictlySortedBy cmp (keys_of xs)) (sym none) tt
+
+  -- what is found once an entry is put in
+  pub lookup_put : {V : Type 0} (es : List (K × V)) (k : K) (v : V) → IsStrictlySortedBy cmp (keys_of es) → (q : K)
+      → lookup (is_at (cmp q)) (insert_entry cmp es k v) ≡ cond (is_eq (cmp k q)) (Some v) (lookup (is_at (cmp q)) es)
+  lookup_put es k v sorted q = ap (lookup (is_at (cmp q))) (sym (with_entry-insert cmp total es k v sorted)) ∙ lookup-with_entry cmp total es k v q
 
   -- what is found once a key is taken out
-  pub lookup_removed : (es : List (K × V)) (k : K) → IsStrictlySortedBy cmp (keys_of es) → (q : K)
+  pub lookup_removed : {V : Type 0} (es : List (K × V)) (k : K) → IsStrictlySortedBy cmp (keys_of es) → (q : K)
       → lookup (is_at (cmp q)) (remove_entry (is_at (cmp k)) es) ≡ cond (is_eq (cmp k q)) None (lookup (is_at (cmp q)) es)
-  lookup_removed [] k sorted q = nothing (is_eq (cmp k q))
-    where
-      nothing : (b : Bool) → None ≡ cond b (None {V}) None
-      nothing true = refl
-      nothing false = refl
-  lookup_removed (e ∷ es) k sorted q =
+  lookup_removed [] k sorted q = no_value (is_eq (cmp k q)) None refl
+  lookup_removed {V} (e ∷ es) k sorted q =
       go (lookup_removed es k (sorted_tail cmp e.0 (keys_of es) sorted) q) (is_eq (cmp k e.0)) (is_eq (cmp k q)) refl refl
     where
       go : lookup (is_at (cmp q)) (remove_entry (is_at (cmp k)) es) ≡ cond (is_eq (cmp k q)) None (lookup (is_at (cmp q)) es)
@@ -129,3 +132,9 @@ module _ {K V : Type 0} (cmp : K → K → Ordering) (total : IsTotalOrder cmp) 
 
   pub entry_absent : found ≡ false → IsStrictlySortedBy cmp (keys_of es) → es ≡ remove_entry (is_at (cmp k)) es
   entry_absent is sorted = sym (remove_absent (is_at (cmp k)) es (sym (value_missing is sorted)))
+
+  pub sorted_put : {T E : Type 0} (r : Result T E) → found ≡ false → IsStrictlySortedBy cmp (keys_of es) → (v : V) (new : List (K × V))
+      → OnOk r (new ≡ insert es i (k, v)) → OnErr r (new ≡ es) → IsStrictlySortedBy cmp (keys_of new)
+  sorted_put (Ok x) is sorted v new ok err =
+      subst (λ (xs : List (K × V)). IsStrictlySortedBy cmp (keys_of xs)) (sym (entry_put is v new ok)) (insert-sorted cmp total es k v sorted)
+  sorted_put (Err e) is sorted v new ok err = subst (λ (xs : List (K × V)). IsStrictlySortedBy cmp (keys_of xs)) (sym err) sorted

@@ -175,7 +175,8 @@ impl<K: Ord + Drop, V: Drop> GapMap<K, V> {
             self.entries.set_second(place.at, value);
             Ok(())
         } else {
-            self.entries.insert(place.at, (key, value))
+            self.entries.insert(place.at, (key, value))?;
+            Ok(())
         }
     }
 
