@@ -74,15 +74,16 @@ module _ {M N : Type 0} (first : M → M → Ordering) (second : N → N → Ord
   insert-same (x ∷ xs) rest q behind =
       ap (λ o. match_ordering (ordering_then o (second n x)) ((m, n) ∷ (m, x) ∷ (map (λ y. (m, y)) xs ++ rest)) ((m, x) ∷ (map (λ y. (m, y)) xs ++ rest))
       ((m, x) ∷ insert_key (pair_cmp first second) (map (λ y. (m, y)) xs ++ rest) (m, n))) q
-      ∙ go (second n x)
+      ∙ go (second n x) (insert-same xs rest q behind)
     where
       go : (o : Ordering)
+          → insert_key (pair_cmp first second) (map (λ y. (m, y)) xs ++ rest) (m, n) ≡ map (λ y. (m, y)) (insert_key second xs n) ++ rest
           → match_ordering o ((m, n) ∷ (m, x) ∷ (map (λ y. (m, y)) xs ++ rest)) ((m, x) ∷ (map (λ y. (m, y)) xs ++ rest))
           ((m, x) ∷ insert_key (pair_cmp first second) (map (λ y. (m, y)) xs ++ rest) (m, n))
           ≡ map (λ y. (m, y)) (match_ordering o (n ∷ x ∷ xs) (x ∷ xs) (x ∷ insert_key second xs n)) ++ rest
-      go Less = refl
-      go Equal = refl
-      go Greater = ap (λ ps. (m, x) ∷ ps) (insert-same xs rest q behind)
+      go Less later = refl
+      go Equal later = refl
+      go Greater later = ap (λ ps. (m, x) ∷ ps) later
 
   remove-apart : (k : M) (xs : List N) (rest : List (M × N)) → is_eq (first m k) ≡ false
       → remove_key (is_at (pair_cmp first second (m, n))) (map (λ x. (k, x)) xs ++ rest)
@@ -105,13 +106,15 @@ module _ {M N : Type 0} (first : M → M → Ordering) (second : N → N → Ord
   remove-same k (x ∷ xs) rest q behind =
       ap (λ o. cond (is_eq (ordering_then o (second n x))) (map (λ y. (k, y)) xs ++ rest)
       ((k, x) ∷ remove_key (is_at (pair_cmp first second (m, n))) (map (λ y. (k, y)) xs ++ rest))) q
-      ∙ go (is_eq (second n x))
+      ∙ go (is_eq (second n x)) (remove-same k xs rest q behind)
     where
       go : (b : Bool)
+          → remove_key (is_at (pair_cmp first second (m, n))) (map (λ y. (k, y)) xs ++ rest)
+          ≡ map (λ y. (k, y)) (remove_key (is_at (second n)) xs) ++ rest
           → cond b (map (λ y. (k, y)) xs ++ rest) ((k, x) ∷ remove_key (is_at (pair_cmp first second (m, n))) (map (λ y. (k, y)) xs ++ rest))
           ≡ map (λ y. (k, y)) (cond b xs (x ∷ remove_key (is_at (second n)) xs)) ++ rest
-      go true = refl
-      go false = ap (λ ps. (k, x) ∷ ps) (remove-same k xs rest q behind)
+      go true later = refl
+      go false later = ap (λ ps. (k, x) ∷ ps) later
 
   -- ---- all keys above
 
@@ -124,12 +127,13 @@ module _ {M N : Type 0} (first : M → M → Ordering) (second : N → N → Ord
     insert-below : (es : List (M × E)) → AllByRecursion (λ k. first m k ≡ Less) (keys_of es)
         → insert_key (pair_cmp first second) (pairs_of things es) (m, n) ≡ (m, n) ∷ pairs_of things es
     insert-below [] below = refl
-    insert-below (e ∷ es) below = go (things e.1)
+    insert-below (e ∷ es) below = go (things e.1) (insert-below es below.1)
       where
-        go : (xs : List N) → insert_key (pair_cmp first second) (map (λ x. (e.0, x)) xs ++ pairs_of things es) (m, n)
+        go : (xs : List N) → insert_key (pair_cmp first second) (pairs_of things es) (m, n) ≡ (m, n) ∷ pairs_of things es
+            → insert_key (pair_cmp first second) (map (λ x. (e.0, x)) xs ++ pairs_of things es) (m, n)
             ≡ (m, n) ∷ (map (λ x. (e.0, x)) xs ++ pairs_of things es)
-        go [] = insert-below es below.1
-        go (x ∷ xs) =
+        go [] later = later
+        go (x ∷ xs) later =
             ap (λ o. match_ordering (ordering_then o (second n x)) ((m, n) ∷ (e.0, x) ∷ (map (λ y. (e.0, y)) xs ++ pairs_of things es))
             ((e.0, x) ∷ (map (λ y. (e.0, y)) xs ++ pairs_of things es))
             ((e.0, x) ∷ insert_key (pair_cmp first second) (map (λ y. (e.0, y)) xs ++ pairs_of things es) (m, n))) below.0
@@ -151,16 +155,18 @@ module _ {M N E : Type 0} (first : M → M → Ordering) (total : IsTotalOrder f
       → list_any (is_at (pair_cmp first second (m, n))) (pairs_of things es)
       ≡ list_any (is_at (second n)) (things_or_none things (lookup (is_at (first m)) es))
   any_of [] s = refl
-  any_of (e ∷ es) s = go (first m e.0) refl
+  any_of (e ∷ es) s = go (first m e.0) refl (any_of es (sorted_tail first e.0 (keys_of es) s))
     where
       go : (o : Ordering) → first m e.0 ≡ o
+          → list_any (is_at (pair_cmp first second (m, n))) (pairs_of things es)
+          ≡ list_any (is_at (second n)) (things_or_none things (lookup (is_at (first m)) es))
           → list_any (is_at (pair_cmp first second (m, n))) (pairs_of things (e ∷ es))
           ≡ list_any (is_at (second n)) (things_or_none things (cond (is_eq o) (Some e.1) (lookup (is_at (first m)) es)))
-      go Less q = any_apart first second m n e.0 (things e.1) (pairs_of things es) (ap is_eq q)
+      go Less q later = any_apart first second m n e.0 (things e.1) (pairs_of things es) (ap is_eq q)
           ∙ any-below first second m n things es (weaker e.0 (keys_of es) q (sorted_head first e.0 (keys_of es) s))
           ∙ sym (ap (λ o. list_any (is_at (second n)) (things_or_none things o))
           (lookup-below first m es (weaker e.0 (keys_of es) q (sorted_head first e.0 (keys_of es) s))))
-      go Equal q = any_same first second m n e.0 (things e.1) (pairs_of things es) q
+      go Equal q later = any_same first second m n e.0 (things e.1) (pairs_of things es) q
           ∙ ap (λ b. list_any (is_at (second n)) (things e.1) || b)
           (any-below first second m n things es (alike e.0 (keys_of es) q (sorted_head first e.0 (keys_of es) s)))
           ∙ nothing_more (list_any (is_at (second n)) (things e.1))
@@ -168,22 +174,23 @@ module _ {M N E : Type 0} (first : M → M → Ordering) (total : IsTotalOrder f
           nothing_more : (b : Bool) → (b || false) ≡ b
           nothing_more true = refl
           nothing_more false = refl
-      go Greater q = any_apart first second m n e.0 (things e.1) (pairs_of things es) (ap is_eq q) ∙ any_of es (sorted_tail first e.0 (keys_of es) s)
+      go Greater q later = any_apart first second m n e.0 (things e.1) (pairs_of things es) (ap is_eq q) ∙ later
 
   -- one more thing at a key that is there
   pub insert_there : (es : List (M × E)) (old new : E) → IsStrictlySortedBy first (keys_of es) → lookup (is_at (first m)) es ≡ Some old
       → things new ≡ insert_key second (things old) n
       → insert_key (pair_cmp first second) (pairs_of things es) (m, n) ≡ pairs_of things (set_value (is_at (first m)) es new)
   insert_there [] old new s h made = absurd (true≢false (sym (ap is_some h)))
-  insert_there (e ∷ es) old new s h made = go (first m e.0) refl h
+  insert_there (e ∷ es) old new s h made = go (first m e.0) refl h (λ f. insert_there es old new (sorted_tail first e.0 (keys_of es) s) f made)
     where
       go : (o : Ordering) → first m e.0 ≡ o → cond (is_eq o) (Some e.1) (lookup (is_at (first m)) es) ≡ Some old
+          → (lookup (is_at (first m)) es ≡ Some old → insert_key (pair_cmp first second) (pairs_of things es) (m, n) ≡ pairs_of things (set_value (is_at (first m)) es new))
           → insert_key (pair_cmp first second) (pairs_of things (e ∷ es)) (m, n)
           ≡ pairs_of things (set_value (is_at (first m)) (e ∷ es) new)
-      go Less q f =
+      go Less q f later =
           let none = lookup-below first m es (weaker e.0 (keys_of es) q (sorted_head first e.0 (keys_of es) s)) in
           absurd (true≢false (sym (ap is_some (sym none ∙ f))))
-      go Equal q f =
+      go Equal q f later =
           let behind = insert-below first second m n things es (alike e.0 (keys_of es) q (sorted_head first e.0 (keys_of es) s)) in
           let same : m ≡ e.0 = exact m e.0 q in
           let same_first : first m m ≡ Equal = ap (first m) same ∙ q in
@@ -197,9 +204,9 @@ module _ {M N E : Type 0} (first : M → M → Ordering) (total : IsTotalOrder f
           value_or : E → Option E → E
           value_or d None = d
           value_or d (Some y) = y
-      go Greater q f =
+      go Greater q f later =
           insert-apart first second m n e.0 (things e.1) (pairs_of things es) q
-          ∙ ap (λ ps. map (λ x. (e.0, x)) (things e.1) ++ ps) (insert_there es old new (sorted_tail first e.0 (keys_of es) s) f made)
+          ∙ ap (λ ps. map (λ x. (e.0, x)) (things e.1) ++ ps) (later f)
           ∙ sym (ap (λ o. pairs_of things (cond (is_eq o) ((e.0, new) ∷ es) (e ∷ set_value (is_at (first m)) es new))) q)
 
   -- the first thing at a key
@@ -207,33 +214,36 @@ module _ {M N E : Type 0} (first : M → M → Ordering) (total : IsTotalOrder f
       → things new ≡ n ∷ []
       → insert_key (pair_cmp first second) (pairs_of things es) (m, n) ≡ pairs_of things (insert_entry first es m new)
   insert_first [] new s h made = sym (ap (λ xs. map (λ x. (m, x)) xs ++ []) made)
-  insert_first (e ∷ es) new s h made = go (first m e.0) refl h
+  insert_first (e ∷ es) new s h made = go (first m e.0) refl h (λ f. insert_first es new (sorted_tail first e.0 (keys_of es) s) f made)
     where
       go : (o : Ordering) → first m e.0 ≡ o → cond (is_eq o) (Some e.1) (lookup (is_at (first m)) es) ≡ None
+          → (lookup (is_at (first m)) es ≡ None
+              → insert_key (pair_cmp first second) (pairs_of things es) (m, n) ≡ pairs_of things (insert_entry first es m new))
           → insert_key (pair_cmp first second) (pairs_of things (e ∷ es)) (m, n)
           ≡ pairs_of things (match_ordering o ((m, new) ∷ e ∷ es) ((e.0, new) ∷ es) (e ∷ insert_entry first es m new))
-      go Less q f =
+      go Less q f later =
           insert-below first second m n things (e ∷ es) (q, weaker e.0 (keys_of es) q (sorted_head first e.0 (keys_of es) s))
           ∙ sym (ap (λ xs. map (λ x. (m, x)) xs ++ pairs_of things (e ∷ es)) made)
-      go Equal q f = absurd (true≢false (ap is_some f))
-      go Greater q f =
+      go Equal q f later = absurd (true≢false (ap is_some f))
+      go Greater q f later =
           insert-apart first second m n e.0 (things e.1) (pairs_of things es) q
-          ∙ ap (λ ps. map (λ x. (e.0, x)) (things e.1) ++ ps) (insert_first es new (sorted_tail first e.0 (keys_of es) s) f made)
+          ∙ ap (λ ps. map (λ x. (e.0, x)) (things e.1) ++ ps) (later f)
 
   -- one thing less at a key that is there
   pub remove_there : (es : List (M × E)) (old new : E) → IsStrictlySortedBy first (keys_of es) → lookup (is_at (first m)) es ≡ Some old
       → things new ≡ remove_key (is_at (second n)) (things old)
       → remove_key (is_at (pair_cmp first second (m, n))) (pairs_of things es) ≡ pairs_of things (set_value (is_at (first m)) es new)
   remove_there [] old new s h made = absurd (true≢false (sym (ap is_some h)))
-  remove_there (e ∷ es) old new s h made = go (first m e.0) refl h
+  remove_there (e ∷ es) old new s h made = go (first m e.0) refl h (λ f. remove_there es old new (sorted_tail first e.0 (keys_of es) s) f made)
     where
       go : (o : Ordering) → first m e.0 ≡ o → cond (is_eq o) (Some e.1) (lookup (is_at (first m)) es) ≡ Some old
+          → (lookup (is_at (first m)) es ≡ Some old → remove_key (is_at (pair_cmp first second (m, n))) (pairs_of things es) ≡ pairs_of things (set_value (is_at (first m)) es new))
           → remove_key (is_at (pair_cmp first second (m, n))) (pairs_of things (e ∷ es))
           ≡ pairs_of things (set_value (is_at (first m)) (e ∷ es) new)
-      go Less q f =
+      go Less q f later =
           let none = lookup-below first m es (weaker e.0 (keys_of es) q (sorted_head first e.0 (keys_of es) s)) in
           absurd (true≢false (sym (ap is_some (sym none ∙ f))))
-      go Equal q f =
+      go Equal q f later =
           let nowhere = any-below first second m n things es (alike e.0 (keys_of es) q (sorted_head first e.0 (keys_of es) s)) in
           let behind = remove-absent (is_at (pair_cmp first second (m, n))) (pairs_of things es) nowhere in
           let what : old ≡ e.1 = ap (λ (o : Option E). value_or e.1 o) (sym f) in
@@ -244,9 +254,9 @@ module _ {M N E : Type 0} (first : M → M → Ordering) (total : IsTotalOrder f
           value_or : E → Option E → E
           value_or d None = d
           value_or d (Some y) = y
-      go Greater q f =
+      go Greater q f later =
           remove-apart first second m n e.0 (things e.1) (pairs_of things es) (ap is_eq q)
-          ∙ ap (λ ps. map (λ x. (e.0, x)) (things e.1) ++ ps) (remove_there es old new (sorted_tail first e.0 (keys_of es) s) f made)
+          ∙ ap (λ ps. map (λ x. (e.0, x)) (things e.1) ++ ps) (later f)
           ∙ sym (ap (λ o. pairs_of things (cond (is_eq o) ((e.0, new) ∷ es) (e ∷ set_value (is_at (first m)) es new))) q)
 
   -- a key that isn't there has no pairs
@@ -259,12 +269,13 @@ module _ {M N E : Type 0} (first : M → M → Ordering) (total : IsTotalOrder f
   same_there : (es : List (M × E)) (old new : E) → lookup (is_at (first m)) es ≡ Some old → things new ≡ things old
       → pairs_of things (set_value (is_at (first m)) es new) ≡ pairs_of things es
   same_there [] old new h made = refl
-  same_there (e ∷ es) old new h made = go (is_eq (first m e.0)) h
+  same_there (e ∷ es) old new h made = go (is_eq (first m e.0)) h (λ f. same_there es old new f made)
     where
       go : (b : Bool) → cond b (Some e.1) (lookup (is_at (first m)) es) ≡ Some old
+          → (lookup (is_at (first m)) es ≡ Some old → pairs_of things (set_value (is_at (first m)) es new) ≡ pairs_of things es)
           → pairs_of things (cond b ((e.0, new) ∷ es) (e ∷ set_value (is_at (first m)) es new)) ≡ pairs_of things (e ∷ es)
-      go true f = ap (λ xs. map (λ x. (e.0, x)) xs ++ pairs_of things es) (made ∙ ap things (ap (λ (o : Option E). unwrap_or o e.1) (sym f)))
-      go false f = ap (λ ps. map (λ x. (e.0, x)) (things e.1) ++ ps) (same_there es old new f made)
+      go true f later = ap (λ xs. map (λ x. (e.0, x)) xs ++ pairs_of things es) (made ∙ ap things (ap (λ (o : Option E). unwrap_or o e.1) (sym f)))
+      go false f later = ap (λ ps. map (λ x. (e.0, x)) (things e.1) ++ ps) (later f)
 
   -- a key that is there gets a thing, which may be there
   pub key_there : (es : List (M × E)) (old new : E) (added : Bool) → IsStrictlySortedBy first (keys_of es) → lookup (is_at (first m)) es ≡ Some old
@@ -301,11 +312,12 @@ module _ {M N E : Type 0} (first : M → M → Ordering) (total : IsTotalOrder f
   above_pairs : (k : M) (x : N) (es : List (M × E)) → AllByRecursion (λ y. first k y ≡ Less) (keys_of es)
       → AllByRecursion (λ p. pair_cmp first second (k, x) p ≡ Less) (pairs_of things es)
   above_pairs k x [] h = tt
-  above_pairs k x (e ∷ es) h = go (things e.1)
+  above_pairs k x (e ∷ es) h = go (things e.1) (above_pairs k x es h.1)
     where
-      go : (ys : List N) → AllByRecursion (λ p. pair_cmp first second (k, x) p ≡ Less) (map (λ y. (e.0, y)) ys ++ pairs_of things es)
-      go [] = above_pairs k x es h.1
-      go (y ∷ ys) = (ap (λ o. ordering_then o (second x y)) h.0, go ys)
+      go : (ys : List N) → AllByRecursion (λ p. pair_cmp first second (k, x) p ≡ Less) (pairs_of things es)
+          → AllByRecursion (λ p. pair_cmp first second (k, x) p ≡ Less) (map (λ y. (e.0, y)) ys ++ pairs_of things es)
+      go [] later = later
+      go (y ∷ ys) later = (ap (λ o. ordering_then o (second x y)) h.0, go ys later)
 
   block_sorted : (k : M) (xs : List N) (rest : List (M × N)) → first k k ≡ Equal → IsStrictlySortedBy second xs
       → IsStrictlySortedBy (pair_cmp first second) rest → ((x : N) → AllByRecursion (λ p. pair_cmp first second (k, x) p ≡ Less) rest)
@@ -331,18 +343,20 @@ module _ {M E : Type 0} (Q : E → Type 0) where
   pub all_set : (test : M → Bool) (es : List (M × E)) (new : E) → Q new → AllByRecursion (λ e. Q e.1) es
       → AllByRecursion (λ e. Q e.1) (set_value test es new)
   all_set test [] new q h = tt
-  all_set test (e ∷ es) new q h = go (test e.0)
+  all_set test (e ∷ es) new q h = go (test e.0) (all_set test es new q h.1)
     where
-      go : (b : Bool) → AllByRecursion (λ x. Q x.1) (cond b ((e.0, new) ∷ es) (e ∷ set_value test es new))
-      go true = (q, h.1)
-      go false = (h.0, all_set test es new q h.1)
+      go : (b : Bool) → AllByRecursion (λ x. Q x.1) (set_value test es new)
+          → AllByRecursion (λ x. Q x.1) (cond b ((e.0, new) ∷ es) (e ∷ set_value test es new))
+      go true later = (q, h.1)
+      go false later = (h.0, later)
 
   pub all_insert : (cmp : M → M → Ordering) (es : List (M × E)) (m : M) (new : E) → Q new → AllByRecursion (λ e. Q e.1) es
       → AllByRecursion (λ e. Q e.1) (insert_entry cmp es m new)
   all_insert cmp [] m new q h = (q, tt)
-  all_insert cmp (e ∷ es) m new q h = go (cmp m e.0)
+  all_insert cmp (e ∷ es) m new q h = go (cmp m e.0) (all_insert cmp es m new q h.1)
     where
-      go : (o : Ordering) → AllByRecursion (λ x. Q x.1) (match_ordering o ((m, new) ∷ e ∷ es) ((e.0, new) ∷ es) (e ∷ insert_entry cmp es m new))
-      go Less = (q, h.0, h.1)
-      go Equal = (q, h.1)
-      go Greater = (h.0, all_insert cmp es m new q h.1)
+      go : (o : Ordering) → AllByRecursion (λ x. Q x.1) (insert_entry cmp es m new)
+          → AllByRecursion (λ x. Q x.1) (match_ordering o ((m, new) ∷ e ∷ es) ((e.0, new) ∷ es) (e ∷ insert_entry cmp es m new))
+      go Less later = (q, (h.0, h.1))
+      go Equal later = (q, h.1)
+      go Greater later = (h.0, later)

@@ -91,11 +91,12 @@ name_added old new name added entry = record {
 -- a name that is taken out
 keys_of-remove : {K X : Type 0} (test : K → Bool) (xs : List (K × X)) → keys_of (remove_entry test xs) ≡ remove_key test (keys_of xs)
 keys_of-remove test [] = refl
-keys_of-remove {K} {X} test (x ∷ xs) = go (test x.0)
+keys_of-remove {K} {X} test (x ∷ xs) = go (test x.0) (keys_of-remove test xs)
   where
-    go : (b : Bool) → keys_of (cond b xs (x ∷ remove_entry test xs)) ≡ cond b (keys_of xs) (x.0 ∷ remove_key test (keys_of xs))
-    go true = refl
-    go false = ap (λ ks. x.0 ∷ ks) (keys_of-remove test xs)
+    go : (b : Bool) → keys_of (remove_entry test xs) ≡ remove_key test (keys_of xs)
+        → keys_of (cond b xs (x ∷ remove_entry test xs)) ≡ cond b (keys_of xs) (x.0 ∷ remove_key test (keys_of xs))
+    go true later = refl
+    go false later = ap (λ ks. x.0 ∷ ks) later
 
 pub name_removed : (old new : Names) (name : List ℕ) → new ≡ remove_entry (is_at (slice_cmp nat_cmp name)) old
     → names_in new ≡ remove_key (is_at (slice_cmp nat_cmp name)) (names_in old)
@@ -103,7 +104,7 @@ name_removed old new name is = ap keys_of is ∙ keys_of-remove (is_at (slice_cm
 
 -- ---- places by module
 
-has_name_in : Option Names → List ℕ → Bool
+abbrev pub has_name_in : Option Names → List ℕ → Bool
 has_name_in None name = false
 has_name_in (Some names) name = is_some (item_at names name)
 

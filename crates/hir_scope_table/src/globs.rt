@@ -123,6 +123,7 @@ fn add_among(names: &mut Names, name: &Name) -> Result<bool, AllocError>
     ensures err { OnErr result (names.new ≡ names.old) }
     ensures sorted { IsStrictlySortedBy (slice_cmp nat_cmp) (names_in names.new) }
 {
+    names.is_ordered();
     let added = names.add(name.clone()?, ())?;
     names.is_ordered();
     Ok(added)

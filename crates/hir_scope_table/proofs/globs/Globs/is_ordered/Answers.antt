@@ -1,4 +1,4 @@
-use Rattle.std.proofs.Common.{sym, subst, List}
+use Rattle.std.proofs.Common.{subst, List}
 use Rattle.std.specs.Cmp.Lexicographic.{slice_cmp}
 use Rattle.std.specs.List.Sorted.{IsStrictlySortedBy}
 use Rattle.std.specs.Ordering.{nat_cmp}
@@ -14,6 +14,6 @@ pub returns : goal.returns
 returns c = record {
   total = place_total;
   ordered =
-      subst (λ (ps : List Place). IsStrictlySortedBy place_cmp ps) (sym c.self.view_is)
+      subst (λ (ps : List Place). IsStrictlySortedBy place_cmp ps) c.self.view_is
       (pairs_sorted module_id.ghosts.cmp module_total (slice_cmp nat_cmp) names_in c.self.inside.modules.entries c.len.ensures.ordered c.self.invariant);
 }
