@@ -20,6 +20,10 @@ key_given : (b : Bool) (by old : Option Brought) → cond b by old ≡ (if b the
 key_given true by old = refl
 key_given false by old = refl
 
+no_one : (b : Bool) (o : Option Brought) → o ≡ None → (if b then None else o) ≡ None
+no_one true o none = refl
+no_one false o none = none
+
 module _ (old new : List (ℕ × BroughtKeys)) (s : Slot) (by : Option Brought) (had has : Option BroughtKeys)
     (found : lookup (is_at (nat_cmp s.at)) old ≡ had)
     (updates : (q : ℕ) → lookup (is_at (nat_cmp q)) new ≡ cond (is_at (nat_cmp s.at) q) has (lookup (is_at (nat_cmp q)) old))
@@ -59,8 +63,4 @@ nothing_forgotten modules s none q = go (nat_cmp s.at q.at) refl
         let same : s.at ≡ q.at = exact_nat s.at q.at (ap is_eq is) in
         let nothing : by_module modules q ≡ None =
         ap (λ at. brought_in (lookup (is_at (nat_cmp at)) modules) q.key) (sym same) ∙ ap (λ o. brought_in o q.key) none in
-        nothing ∙ sym (ap (λ x. if is_eq (key_order.ghosts.cmp s.key q.key) then None else x) nothing ∙ both (is_eq (key_order.ghosts.cmp s.key q.key)))
-      where
-        both : (b : Bool) → (if b then None else None) ≡ None {Brought}
-        both true = refl
-        both false = refl
+        nothing ∙ sym (no_one (is_eq (key_order.ghosts.cmp s.key q.key)) (by_module modules q) nothing)

@@ -26,15 +26,15 @@ use Rattle.hir_import_rules.specs.Names.{bound_by, bound_trait, trait_vis}
 found_has : {X : Type 0} (P : X → Type 0) (test : List ℕ → Bool) (es : List (List ℕ × X)) (x : X) → AllByRecursion (λ (e : List ℕ × X). P e.1) es
     → lookup test es ≡ Some x → P x
 found_has P test [] x all is = absurd (true≢false (sym (ap is_some is)))
-found_has {X} P test (e ∷ es) x all is = go (test e.0) is
+found_has {X} P test (e ∷ es) x all is = go (test e.0) is (λ f. found_has P test es x all.1 f)
   where
     inside : X → Option X → X
     inside d None = d
     inside d (Some y) = y
 
-    go : (b : Bool) → cond b (Some e.1) (lookup test es) ≡ Some x → P x
-    go true f = subst P (ap (inside x) f) all.0
-    go false f = found_has P test es x all.1 f
+    go : (b : Bool) → cond b (Some e.1) (lookup test es) ≡ Some x → (lookup test es ≡ Some x → P x) → P x
+    go true f later = subst P (ap (inside x) f) all.0
+    go false f later = later f
 
 module _ (map : Map) where
   abbrev ArePlaced : {D I : Type 0} → List (List ℕ × Item D I) → Type 0

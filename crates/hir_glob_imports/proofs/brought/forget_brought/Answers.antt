@@ -1,4 +1,4 @@
-use Rattle.std.proofs.Common.{ap, sym, subst, is_some, ℕ, None, Some}
+use Rattle.std.proofs.Common.{◌≡◌, ap, sym, subst, is_some, ℕ, None, Some}
 use Rattle.std.specs.BTreeMap.{BTreeMap}
 use Rattle.hir_glob_imports.specs.ByModule.{BroughtKeys}
 use Rattle.hir_glob_imports.specs.Rules.{with_brought}

@@ -1,4 +1,4 @@
-use Rattle.std.proofs.Common.{ap, sym, subst, is_some, ℕ, Some, OnOk}
+use Rattle.std.proofs.Common.{◌≡◌, ap, sym, subst, is_some, ℕ, Some, OnOk}
 use Rattle.std.specs.BTreeMap.{BTreeMap}
 use Rattle.std.proofs.lemmas.Result.{on_ok_weaker}
 use Rattle.hir_glob_imports.specs.ByModule.{BroughtKeys}
