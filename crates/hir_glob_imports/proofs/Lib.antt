@@ -10,3 +10,4 @@ pub mod Spreading
 pub mod Reopening
 pub mod Advancing
 pub mod OfKind
+pub mod SameSeen
