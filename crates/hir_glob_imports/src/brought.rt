@@ -151,12 +151,7 @@ impl SeenCache {
     }
 
     /// What an edge out of a source saw, shared with what was seen before where that is found.
-    fn share(
-        &mut self,
-        alloc: Global,
-        source: Target,
-        wanted: Seen,
-    ) -> Result<Rc<Seen>, AllocError>
+    fn share(&mut self, alloc: Global, source: Target, wanted: Seen) -> Result<Rc<Seen>, AllocError>
         ensures same { IfOk result (λ rc. rc.value ≡ wanted) }
     {
         let run = self.run(source);

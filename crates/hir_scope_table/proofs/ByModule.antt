@@ -218,7 +218,7 @@ module _ {M N E : Type 0} (first : M → M → Ordering) (total : IsTotalOrder f
     where
       go : (o : Ordering) → first m e.0 ≡ o → cond (is_eq o) (Some e.1) (lookup (is_at (first m)) es) ≡ None
           → (lookup (is_at (first m)) es ≡ None
-              → insert_key (pair_cmp first second) (pairs_of things es) (m, n) ≡ pairs_of things (insert_entry first es m new))
+          → insert_key (pair_cmp first second) (pairs_of things es) (m, n) ≡ pairs_of things (insert_entry first es m new))
           → insert_key (pair_cmp first second) (pairs_of things (e ∷ es)) (m, n)
           ≡ pairs_of things (match_ordering o ((m, new) ∷ e ∷ es) ((e.0, new) ∷ es) (e ∷ insert_entry first es m new))
       go Less q f later =

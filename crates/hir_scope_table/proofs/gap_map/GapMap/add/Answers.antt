@@ -14,7 +14,7 @@ pub invariant_of-self-2 : goal.invariant_of-self-2
 invariant_of-self-2 g c =
     subst (λ (es : List (g.row.K.Denot × g.row.V.Denot)). IsStrictlySortedBy g.K.Ord.cmp (keys_of es))
     (sym (entry_put g.K.Ord.cmp g.met.K.Ord.total c.args.key c.self.inside.entries c.place_of-place.result.at c.place_of-place.result.found c.place_of-place.ensures.belongs
-        c.if-place.false c.args.value c.insert.new.self c.in_ok-insert.ensures.ok))
+    c.if-place.false c.args.value c.insert.new.self c.in_ok-insert.ensures.ok))
     (insert-sorted g.K.Ord.cmp g.met.K.Ord.total c.self.inside.entries c.args.key c.args.value c.self.invariant)
 
 pub returns-clause-ok : goal.returns-clause-ok
