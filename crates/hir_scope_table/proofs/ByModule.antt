@@ -184,7 +184,8 @@ module _ {M N E : Type 0} (first : M → M → Ordering) (total : IsTotalOrder f
   insert_there (e ∷ es) old new s h made = go (first m e.0) refl h (λ f. insert_there es old new (sorted_tail first e.0 (keys_of es) s) f made)
     where
       go : (o : Ordering) → first m e.0 ≡ o → cond (is_eq o) (Some e.1) (lookup (is_at (first m)) es) ≡ Some old
-          → (lookup (is_at (first m)) es ≡ Some old → insert_key (pair_cmp first second) (pairs_of things es) (m, n) ≡ pairs_of things (set_value (is_at (first m)) es new))
+          → (lookup (is_at (first m)) es ≡ Some old
+          → insert_key (pair_cmp first second) (pairs_of things es) (m, n) ≡ pairs_of things (set_value (is_at (first m)) es new))
           → insert_key (pair_cmp first second) (pairs_of things (e ∷ es)) (m, n)
           ≡ pairs_of things (set_value (is_at (first m)) (e ∷ es) new)
       go Less q f later =
@@ -237,7 +238,8 @@ module _ {M N E : Type 0} (first : M → M → Ordering) (total : IsTotalOrder f
   remove_there (e ∷ es) old new s h made = go (first m e.0) refl h (λ f. remove_there es old new (sorted_tail first e.0 (keys_of es) s) f made)
     where
       go : (o : Ordering) → first m e.0 ≡ o → cond (is_eq o) (Some e.1) (lookup (is_at (first m)) es) ≡ Some old
-          → (lookup (is_at (first m)) es ≡ Some old → remove_key (is_at (pair_cmp first second (m, n))) (pairs_of things es) ≡ pairs_of things (set_value (is_at (first m)) es new))
+          → (lookup (is_at (first m)) es ≡ Some old
+          → remove_key (is_at (pair_cmp first second (m, n))) (pairs_of things es) ≡ pairs_of things (set_value (is_at (first m)) es new))
           → remove_key (is_at (pair_cmp first second (m, n))) (pairs_of things (e ∷ es))
           ≡ pairs_of things (set_value (is_at (first m)) (e ∷ es) new)
       go Less q f later =

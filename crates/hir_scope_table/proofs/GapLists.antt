@@ -1,5 +1,6 @@
 -- Lists that are kept in two halves, of which the second has its last element first.
-use Rattle.std.proofs.Common.{◌≡◌, ◌∙◌, ap, sym, subst, refl, Option, Some, ℕ, zero, suc, ◌+◌, ◌-◌, ◌<◌, ◌≤◌, List, [], ◌∷◌, ◌++◌, length, reverse, take, drop, get_or, arith}
+use Rattle.std.proofs.Common.{◌≡◌, ◌∙◌, ap, sym, subst, refl, Option, Some, ℕ, zero, suc, ◌+◌, ◌-◌, ◌<◌, ◌≤◌, List, [], ◌∷◌, ◌++◌, length, reverse}
+use Rattle.std.proofs.Common.{take, drop, get_or, arith}
 use Rattle.std.specs.List.{insert, remove, slice_get, slice_set}
 use Rattle.std.proofs.lemmas.List.{append_assoc, reverse-append, length-append, length-reverse, length-take, length-drop, take-append-drop}
 

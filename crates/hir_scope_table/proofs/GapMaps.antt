@@ -1,5 +1,6 @@
 -- What the place where a key belongs says of the map that the entries are.
-use Rattle.std.proofs.Common.{◌≡◌, ◌∙◌, ap, sym, subst, ℕ, zero, suc, true, false, Bool, not, List, [], ◌∷◌, refl, Option, None, Some, cond, get_or, unwrap_or, Result, Ok, Err, OnOk, OnErr}
+use Rattle.std.proofs.Common.{◌≡◌, ◌∙◌, ap, sym, subst, ℕ, zero, suc, true, false, Bool, not, List, [], ◌∷◌, refl, Option, None, Some, cond, get_or}
+use Rattle.std.proofs.Common.{unwrap_or, Result, Ok, Err, OnOk, OnErr}
 use mathlib.Core.Bool.{true≢false}
 use Rattle.std.specs.Option.{is_some}
 use Rattle.std.specs.declared.cmp.Ordering.{Ordering}
