@@ -1,5 +1,5 @@
 -- Visibilities of what names stand for.
-use Rattle.std.proofs.Common.{◌≡◌, ap, sym, subst, refl, ℕ, Bool, true, false, List, [], ◌∷◌, Option, None, Some, cond, is_some}
+use Rattle.std.proofs.Common.{◌≡◌, ap, sym, subst, refl, ℕ, Bool, true, false, List, [], ◌∷◌, Option, None, Some, cond, is_some, unwrap_or}
 use mathlib.Core.Bool.{true≢false}
 use Rattle.std.specs.BTreeMap.{is_at}
 use Rattle.std.specs.Cmp.Lexicographic.{slice_cmp}
@@ -54,6 +54,9 @@ module _ (map : Map) where
       go (Some item) found bound =
           subst (λ (c : Bound). IsPlaced map c.vis) (ap (inside b) bound)
           (found_has (λ (i : Item D I). IsPlaced map i.vis) (is_at (slice_cmp nat_cmp name)) items item all found)
+
+  same : (m : ModuleValue) (scope : ScopeValue) → Some scope ≡ Some m.scope → scope ≡ m.scope
+  same m scope there = ap (λ (o : Option ScopeValue). unwrap_or o scope) there
 
   pub placed_in : (m : Option ModuleValue) (scope : ScopeValue) → Some scope ≡ option_map (λ (m : ModuleValue). m.scope) m → ArePlaced scope.types
       → ArePlaced scope.values → ArePlaced scope.macros → (key : Key) (b : Bound) → is_unnamed key ≡ false → bound_inside key m ≡ Some b

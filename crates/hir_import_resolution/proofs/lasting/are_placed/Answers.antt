@@ -10,6 +10,6 @@ returns g c = record {
   placed = λ yes.
       let done : c.next.left ≡ [] = search rules in
       c.next.invariant
-      (subst (λ (items : List (List ℕ × Item g.Def g.Import)). AllByRecursion (λ (e : List ℕ × Item g.Def g.Import). IsPlaced c.args.map.now e.1.vis) items)
+      (subst (λ (items : List (List ℕ × Item g.row.Def.Denot g.row.Import.Denot)). AllByRecursion (λ (e : List ℕ × Item g.row.Def.Denot g.row.Import.Denot). IsPlaced c.args.map.now e.1.vis) items)
       (sym done) tt);
 }

@@ -6,5 +6,5 @@ use Rattle.hir_import_resolution.proofs.lasting.are_placed.Given as goal
 
 -- where the items that are left have such visibilities, all have
 abbrev pub invariant-next : goal.invariant-next
-invariant-next g l = AllByRecursion (λ (e : List ℕ × Item g.Def g.Import). IsPlaced l.map e.1.vis) l.left
-    → AllByRecursion (λ (e : List ℕ × Item g.Def g.Import). IsPlaced l.map e.1.vis) l.fn.items
+invariant-next g l = AllByRecursion (λ (e : List ℕ × Item g.row.Def.Denot g.row.Import.Denot). IsPlaced l.map e.1.vis) l.left
+    → AllByRecursion (λ (e : List ℕ × Item g.row.Def.Denot g.row.Import.Denot). IsPlaced l.map e.1.vis) l.fn.items
