@@ -177,9 +177,13 @@ fn is_scope_placed(map: &DefMap, at: u32) -> bool
 {
     match map.scope(at) {
         Some(scope) => {
-            are_placed(map, scope.types())
-                && are_placed(map, scope.values())
-                && are_placed(map, scope.macros())
+            if !are_placed(map, scope.types()) {
+                return false;
+            }
+            if !are_placed(map, scope.values()) {
+                return false;
+            }
+            are_placed(map, scope.macros())
         }
         None => true,
     }
