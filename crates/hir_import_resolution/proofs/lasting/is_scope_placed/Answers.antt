@@ -8,9 +8,9 @@ pub returns-else-not-are_placed-2 : goal.returns-else-not-are_placed-2
 returns-else-not-are_placed-2 c = record {
   placed = λ yes key b named is.
       placed_in c.args.map.now (module_at c.args.map.now c.args.at) c.in-Some.scope.now (search (rules, c.scope.ensures.value))
-      (rw c.types.ensures.value (c.are_placed.ensures.placed c.if-not-are_placed.false))
-      (rw c.values.ensures.value (c.are_placed-in-Some.ensures.placed c.if-not-are_placed-2.false))
-      (rw c.macros.ensures.value (c.are_placed-in-Some-2.ensures.placed yes)) key b named is;
+      (rw (← c.types.ensures.value) (c.are_placed.ensures.placed c.if-not-are_placed.false))
+      (rw (← c.values.ensures.value) (c.are_placed-in-Some.ensures.placed c.if-not-are_placed-2.false))
+      (rw (← c.macros.ensures.value) (c.are_placed-in-Some-2.ensures.placed yes)) key b named is;
 }
 
 pub returns-in-None : goal.returns-in-None
