@@ -9,13 +9,12 @@ librust-serde-json-dev).
 """
 import sys
 
-from measure import best, memory, run, text
+from measure import READER, best, memory, run, text
 
 SIZES = [int(it) for it in sys.argv[1:]] or [10_000, 20_000, 40_000]
 RESOLVES = 10_000
 LINKS = [500, 1_000, 2_000]
 SESSION = "crates/hir_session_main/out/hir_session_main"
-READER = "bench/serde_json_lines/target/release/serde_json_lines"
 
 
 class Ids:

@@ -7,6 +7,8 @@ import tempfile
 import threading
 import time
 
+# Rust's serde_json, which reads each line and does nothing else.
+READER = "bench/serde_json_lines/target/release/serde_json_lines"
 # Runs its argument, and prints the most memory that it had, in kB. The kernel counts for a program what its parent
 # had when it was started, so the parent is this small one.
 MEMORY = """import resource, subprocess, sys
@@ -53,7 +55,7 @@ def feed(pipe, given):
 
 def run_parts(program, parts):
     """Seconds of processor of each part of a session, handed in once the part before it is answered; and the replies."""
-    child = subprocess.Popen([program], stdin=subprocess.PIPE, stdout=subprocess.PIPE)
+    child = subprocess.Popen(program if isinstance(program, list) else [program], stdin=subprocess.PIPE, stdout=subprocess.PIPE)
     seconds, replies = [], []
     for commands in parts:
         before = used(child.pid)

@@ -149,6 +149,28 @@ impl Opened<'_> {
         Ok(())
     }
 
+    /// Adds items below as many imports of them, one after the other.
+    fn imported(&mut self, place: &Value) -> Result<()> {
+        let imports = |it: usize| format!("use self::wanted_{it} as Wanted{it};\n");
+        self.change(place.clone(), place.clone(), &(0..self.cli.edits).map(imports).collect::<String>())?;
+        self.server.published()?;
+        self.server.settle()?;
+        let (mut times, mut of_processor) = (Vec::new(), [0.0; 2]);
+        for it in 0..self.cli.edits {
+            let before = self.processes.map(processor_of);
+            let start = Instant::now();
+            self.change(place.clone(), place.clone(), &format!("fn wanted_{it}() {{}}\n"))?;
+            self.server.published()?;
+            times.push(start.elapsed().as_secs_f64() * 1000.0);
+            let after = self.processes.map(processor_of);
+            (0..2).for_each(|it| of_processor[it] += after[it] - before[it]);
+            // What waits is handed in, so that each edit is one of what the program has.
+            self.server.settle()?;
+        }
+        told("an item is added that an import names, published", times, of_processor);
+        Ok(())
+    }
+
     /// Adds the import at a place above one of nothing, and takes it away again.
     fn added_and_taken_away(&mut self, place: &Value) -> Result<()> {
         let next = json!({"line": place["line"].as_u64().unwrap_or_default() + 1, "character": 0});
@@ -238,6 +260,7 @@ pub fn measure(cli: &Cli, path: &Path) -> Result<()> {
     let last = place(text.lines().count() + 2 * cli.edits);
     opened.published("an item is added, published", &last, &|it| format!("fn told_{it}() {{}}\n"))?;
     opened.published("an import is added, published", &last, &|it| format!("use self::Item{it}In3 as Told{it};\n"))?;
+    opened.imported(&last)?;
     opened.end()
 }
 

@@ -30,7 +30,7 @@ use serde_json::{json, Value};
 use crate::package::Wanted;
 use crate::report::Place;
 use crate::token::{Position, Span, SyntaxError};
-use crate::workspace::{key_of, path_of_key, Key, Parsed, SameBy, Workspace};
+use crate::workspace::{key_of, path_of_key, Key, KnownBy, Parsed, Workspace};
 use message::{error, notification, reply};
 use text::Text;
 use uri::{key_of_path, key_of_uri, path_of_uri, uri_of_path};
@@ -123,12 +123,12 @@ struct Document {
     waits: Option<Waiting>,
 }
 
-/// The last text of a file that parses, where it changes nothing of what is told: it is handed in when something is asked,
-/// with another text, or when nothing comes for a while.
+/// The last text of a file that parses, where it is known what is told of it: it is handed in when something is asked, with
+/// another text, or when nothing comes for a while.
 struct Waiting {
     text: Arc<Text>,
     parsed: Parsed,
-    same_by: SameBy,
+    known_by: KnownBy,
 }
 
 struct Server<W: Write> {
@@ -153,6 +153,8 @@ struct Server<W: Write> {
     /// The files of which diagnostics speak.
     touched: HashSet<Key>,
     needs_report: bool,
+    /// Whether what is published is what is known to be told of a text that waits.
+    has_told_ahead: bool,
     /// Whether an answer went out since a report was due.
     has_answered: bool,
     /// When the program was started again.
@@ -198,6 +200,7 @@ impl<W: Write> Server<W> {
             published: BTreeMap::new(),
             touched: HashSet::new(),
             needs_report: false,
+            has_told_ahead: false,
             has_answered: false,
             restarts: Vec::new(),
             failures: 0,

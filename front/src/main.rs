@@ -29,7 +29,7 @@ struct Cli {
 enum Command {
     /// Tells what isn't resolved in a package: imports, modules, extern crates, macro calls
     Check {
-        /// The package's folder, or its Cargo.toml
+        /// The package's folder, its Cargo.toml, or one of its files
         #[arg(default_value = ".")]
         path: PathBuf,
         #[command(flatten)]
@@ -54,7 +54,7 @@ enum Command {
     },
     /// Checks, and again after each save
     Watch {
-        /// The package's folder, or its Cargo.toml
+        /// The package's folder, its Cargo.toml, or one of its files
         #[arg(default_value = ".")]
         path: PathBuf,
         #[command(flatten)]
@@ -67,7 +67,7 @@ enum Command {
     },
     /// Prints the session: the commands that the resolver's program is given, one a line
     Session {
-        /// The package's folder, or its Cargo.toml
+        /// The package's folder, its Cargo.toml, or one of its files
         #[arg(default_value = ".")]
         path: PathBuf,
         #[command(flatten)]
@@ -92,8 +92,10 @@ struct Options {
     /// Features of the package, separated by commas or spaces
     #[arg(long, short = 'F', value_name = "FEATURES")]
     features: Vec<String>,
+    /// Every feature of the package
     #[arg(long)]
     all_features: bool,
+    /// Not the package's default features
     #[arg(long)]
     no_default_features: bool,
     /// With `cfg(test)`, and with tests, examples and their dependencies
@@ -182,8 +184,13 @@ impl Options {
     }
 }
 
-/// The folder that is given. In place of the current one, where that has no `Cargo.toml`, it is the nearest above that does.
+/// The folder that is given. In place of the current one, where that has no `Cargo.toml`, and of a file in Rust it is the
+/// nearest above that does.
 fn nearest_package(path: &Path) -> PathBuf {
+    let is_source = path.extension().is_some_and(|it| it == "rs") && path.is_file();
+    if let Some(it) = is_source.then(|| package_of(path).ok()).flatten() {
+        return it;
+    }
     let here = std::env::current_dir().ok().filter(|_| path == Path::new("."));
     let found = here.as_deref().and_then(|it| it.ancestors().find(|it| it.join("Cargo.toml").is_file()));
     found.filter(|it| Some(*it) != here.as_deref()).unwrap_or(path).to_owned()
@@ -460,23 +467,30 @@ fn watch(path: &Path, options: &Options) -> Result<ExitCode> {
             if sources.iter().any(|it| it.metadata().is_ok_and(|it| it.len() == 0)) {
                 std::thread::sleep(Duration::from_millis(50));
             }
+            if let [it] = &sources[..] {
+                if let Some(next) = space.report_of_file(it)? {
+                    tell_changes(&report, &next, None, start.elapsed(), options.json)?;
+                    report = next;
+                }
+            }
             space.update(&sources)?
         };
         let next = space.report()?;
         let taken = start.elapsed();
         let names: Vec<&str> = resolved.iter().map(|it| &*space.crates.all[*it as usize].title).collect();
-        tell_changes(&report, &next, &names, taken, options.json)?;
+        tell_changes(&report, &next, Some(&names), taken, options.json)?;
         report = next;
     }
     Ok(ExitCode::SUCCESS)
 }
 
-fn tell_changes(before: &Report, now: &Report, names: &[&str], taken: Duration, json: bool) -> Result<()> {
+/// Tells what came and went. Without the names of crates it is known before any is resolved again.
+fn tell_changes(before: &Report, now: &Report, names: Option<&[&str]>, taken: Duration, json: bool) -> Result<()> {
     let came: Vec<&Diagnostic> = now.diagnostics.iter().filter(|it| !before.diagnostics.contains(it)).collect();
     let went: Vec<&Diagnostic> = before.diagnostics.iter().filter(|it| !now.diagnostics.contains(it)).collect();
     if json {
         return print_json(&serde_json::json!({
-            "resolved": names, "microseconds": taken.as_micros() as u64, "errors": now.diagnostics.len(), "new": came,
+            "resolved": names.unwrap_or_default(), "microseconds": taken.as_micros() as u64, "errors": now.diagnostics.len(), "new": came,
             "gone": went,
         }));
     }
@@ -487,9 +501,10 @@ fn tell_changes(before: &Report, now: &Report, names: &[&str], taken: Duration, 
     for it in went {
         print(&format!("gone: {}:{}:{}: {}\n", it.place.file, it.place.line, it.place.column, it.message))?;
     }
-    let what = match names.len() {
-        0 => "nothing to resolve again".to_owned(),
-        _ => format!("resolved again: {}", names.join(", ")),
+    let what = match names {
+        None => "known at once".to_owned(),
+        Some([]) => "nothing to resolve again".to_owned(),
+        Some(names) => format!("resolved again: {}", names.join(", ")),
     };
     print(&format!("{what} ({}); {}\n", time(taken), plural(now.diagnostics.len(), "error")))
 }

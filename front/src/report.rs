@@ -19,8 +19,8 @@ use crate::unit::{numbered, paths_of, place_json, quoted, steps_of, Detail};
 use crate::workspace::{bytes_of, key_of, path_of_key, Key, Located, NotRun, Workspace};
 pub use answers::{Answer, Meaning};
 pub(crate) use associated::MOST_ALIASES;
-pub(crate) use imports::{past_items, Reached};
-use imports::{prefixes, Bound, Import};
+pub(crate) use imports::{past_items, prefixes, Reached, NAMESPACES};
+use imports::{Bound, Import};
 
 /// A place in a file.
 #[derive(Clone, PartialEq, Eq, PartialOrd, Ord, Hash, Debug, Serialize)]
@@ -154,7 +154,7 @@ impl Workspace {
         let mut spans = SpansOfItems::new();
         for (krate, it) in calls {
             if self.crates.all[krate as usize].is_asked {
-                self.call_diagnostic(krate, &it, &bound, &mut spans, &mut report)?;
+                self.call_diagnostic(krate, &it, (&bound, &unresolved), &mut spans, &mut report)?;
             }
         }
         self.files_report(&mut report);
@@ -252,7 +252,7 @@ impl Workspace {
         &mut self,
         krate: u32,
         it: &Value,
-        bound: &Bound,
+        (bound, unresolved): (&Bound, &Bound),
         spans: &mut SpansOfItems,
         report: &mut Report,
     ) -> Result<()> {
@@ -261,6 +261,11 @@ impl Workspace {
         };
         let path = it["path"].as_str().unwrap_or_default();
         let names = names_of(path);
+        let key = |name: &str| (krate, located.module.clone(), name.to_owned());
+        // An import is told by which the name isn't known, and rustc tells no more either.
+        if names.first().is_some_and(|it| unresolved.contains(&key(it))) {
+            return Ok(());
+        }
         if names.len() > 1 {
             let reply = self.ask(question(krate, &located.module, &prefixes(path, false)[0]))?;
             if self.is_of_stub(&reply["ok"]["types"]["def"]) {
@@ -268,7 +273,6 @@ impl Workspace {
                 return Ok(());
             }
         }
-        let key = |name: &str| (krate, located.module.clone(), name.to_owned());
         if names.first().is_some_and(|it| bound.contains(&key(it)) || bound.contains(&key("*"))) {
             report.unjudged += 1;
             return Ok(());

@@ -37,6 +37,8 @@ pub struct Leaf {
     pub span: Span,
     /// What it binds: a name, `*`, or nothing where it is a list or `_`.
     pub binds: Option<Arc<str>>,
+    /// Whether it is `self` in a list.
+    pub is_self: bool,
 }
 
 /// What a node has besides by its kind.
@@ -653,21 +655,22 @@ pub(crate) fn joined(prefix: &str, path: &str) -> String {
 fn leaves_of(tree: &UseTree, prefix: &str, place_of: &dyn Fn(Span) -> Span, made: &mut Vec<Leaf>) {
     match tree {
         UseTree::Single { path, alias } => {
-            let span = place_of(path.span);
+            let (span, is_self) = (place_of(path.span), path.text == "self" && !prefix.is_empty());
             let path = joined(prefix, &path.text);
             let binds = match alias {
                 Some(it) => Some(it.text.clone()).filter(|it| **it != *"_"),
                 None => path.rsplit("::").next().map(Into::into),
             };
-            made.push(Leaf { path, span, binds });
+            made.push(Leaf { path, span, binds, is_self });
         }
         UseTree::Glob { path, span } => {
             let path = joined(prefix, path.as_ref().map_or("", |it| &it.text));
-            made.push(Leaf { path: joined(&path, "*"), span: place_of(*span), binds: Some("*".into()) });
+            let (path, binds) = (joined(&path, "*"), Some("*".into()));
+            made.push(Leaf { path, span: place_of(*span), binds, is_self: false });
         }
         UseTree::List { path, trees, span } => {
             let path = joined(prefix, path.as_ref().map_or("", |it| &it.text));
-            made.push(Leaf { path: path.clone(), span: place_of(*span), binds: None });
+            made.push(Leaf { path: path.clone(), span: place_of(*span), binds: None, is_self: false });
             for it in trees {
                 leaves_of(it, &path, place_of, made);
             }

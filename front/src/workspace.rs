@@ -1,6 +1,7 @@
 //! A session over the crates of a package: reads files, expands macros, hands all of it to the program, and keeps what
 //! was handed in the same as what the files say.
 
+mod ahead;
 mod associated;
 mod eager;
 mod expanded;
@@ -33,6 +34,7 @@ use crate::report::Reached;
 use crate::syntax::{Call, MacroDefinition, Unit};
 use crate::token::{on_a_thread, Hash, Span, SyntaxError};
 use crate::unit::{Built, BuiltBlock, Derives, Given, Node};
+use ahead::Ahead;
 pub(crate) use associated::{Associated, Impl};
 use expanded::{Expanded, Moved, Source};
 pub(crate) use files::bytes_of;
@@ -42,7 +44,7 @@ use names::Names;
 pub(crate) use names::{Bound, ModulePlace, Seen};
 pub(crate) use recorded::Recorded;
 use type_names::TypeNames;
-pub use updates::SameBy;
+pub use updates::KnownBy;
 
 /// The text that the program knows a file by: its absolute path without the first `/`.
 pub type Key = Arc<str>;
@@ -236,6 +238,13 @@ pub type NotRun = BTreeMap<(&'static str, String), usize>;
 /// What is known of crates, each with how often the crate had been resolved then.
 type Since<T> = HashMap<u32, (usize, T)>;
 
+/// A text with which it is known what is told.
+struct KnownText {
+    text: Hash,
+    by: KnownBy,
+    ahead: Ahead,
+}
+
 /// Is told what goes on, how many are done, and of how many.
 type Progress = Box<dyn Fn(&str, usize, usize) + Send>;
 
@@ -280,9 +289,8 @@ pub struct Workspace {
     pub(crate) reached: Since<Vec<Reached>>,
     /// The modules of a crate with a glob, each with where that leads.
     pub(crate) globs: Since<Vec<(Vec<String>, Leads)>>,
-    /// The texts of files by which, for what the program has, a report would be the same: their hashes, and by what that is
-    /// known.
-    same: HashMap<Key, (Hash, SameBy)>,
+    /// The texts of files with which it is known, by what the program has, what is told.
+    known: HashMap<Key, KnownText>,
     names: Names,
     progress: Progress,
 }
@@ -361,7 +369,7 @@ impl Workspace {
             past_items: HashMap::new(),
             reached: HashMap::new(),
             globs: HashMap::new(),
-            same: HashMap::new(),
+            known: HashMap::new(),
             names: Names::default(),
             progress,
         };
@@ -381,7 +389,7 @@ impl Workspace {
     /// Walks the crates, hands in what changed, and goes on until nothing that a call expands to is absent.
     /// Answers which crates the program resolved. With `is_same` what is told of them stays the same.
     fn settle(&mut self, crates: &[u32], is_same: bool) -> Result<Vec<u32>> {
-        self.same.clear();
+        self.known.clear();
         let mut resolved = self.settle_once(crates, is_same)?;
         let is_of_std = |it: &u32| (*it as usize) < self.crates.of_std;
         if resolved.iter().any(is_of_std) && self.find_preludes()? {

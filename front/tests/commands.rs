@@ -80,6 +80,8 @@ fn check_tells_what_is_not_resolved() {
     compare_run("check-json", folder.path(), &["check", "--no-std", "--json"]);
     compare_run("check-test", folder.path(), &["check", "shop", "--no-std", "--test", "--no-default-features"]);
     compare_run("check-package", folder.path(), &["check", "--no-std", "-p", "codec", "--features", "codec/numbers"]);
+    let of = |path: &str| steady(&run(folder.path(), &["check", path, "--no-std"]), folder.path());
+    assert_eq!(of("shop/src/report.rs"), of("shop"));
 }
 
 #[test]
@@ -206,7 +208,19 @@ fn watch_tells_what_a_save_changes() {
     save(&price, &format!("{before}\npub struct Rebate;\n"));
     let made = until("; 0 errors");
     assert!(made.contains("gone: shop/src/report.rs:6:32: unresolved import `crate::price::Rebate`"), "{made}");
-    assert!(made.contains("resolved again: shop, shop (bin shop) ("), "{made}");
+    assert!(made.contains("known at once ("), "{made}");
+    assert!(until("; 0 errors").starts_with("resolved again: shop, shop (bin shop) ("));
+    // It goes, and comes again when the file that names it has lines more.
+    save(&price, &before);
+    assert!(until("; 1 error").contains(" --> shop/src/report.rs:6:32"));
+    let report = folder.path().join("shop/src/report.rs");
+    save(&report, &format!("\nfn alone() {{}}\n{}", std::fs::read_to_string(&report).unwrap()));
+    let made = until("; 1 error");
+    assert!(made.contains("known at once") && made.contains(" --> shop/src/report.rs:8:32"), "{made}");
+    assert!(until("; 1 error").starts_with("resolved again: shop, shop (bin shop) ("));
+    save(&price, &format!("{before}\npub struct Rebate;\n"));
+    assert!(until("; 0 errors").contains("gone: shop/src/report.rs:8:32"));
+    assert!(until("; 0 errors").starts_with("resolved again: "));
     // A body alone.
     save(&price, &format!("{}\npub struct Rebate;\n", before.replace("price.0 / 5", "price.0 / 4")));
     assert!(until("; 0 errors").contains("nothing to resolve again"));

@@ -509,6 +509,49 @@ fn items_that_nothing_names_wait() {
     assert_eq!(client.end(), 1);
 }
 
+/// Imports of an item that comes or goes are told before the program has the edit.
+#[cfg(unix)]
+#[test]
+fn imports_of_items_that_wait() {
+    let (text, others) =
+        ("pub struct Old;\n", "use crate::a::New;\npub use crate::a::Old;\nuse super::b::Old as Older;\n");
+    let folder = package(&[("src/lib.rs", "mod a;\nmod b;\n"), ("src/a.rs", text), ("src/b.rs", others)]);
+    let (gate, script) = (folder.path().join("gate"), folder.path().join("program"));
+    let wait = format!("case $line in *'\"set file\"'*) while [ -e {} ]; do sleep 0.01; done;; esac", gate.display());
+    let passes = format!("while IFS= read -r line; do {wait}; printf '%s\\n' \"$line\"; done");
+    write_script(&script, &format!("#!/bin/sh\n{passes} | {}\n", program().display()));
+    let mut client = Client::start(folder.path(), &["--program", script.to_str().unwrap()]);
+    client.initialize();
+    client.open("src/a.rs", text);
+    client.exchange(&[]);
+    let of_new = "src/b.rs:0:4: unresolved import `crate::a::New`";
+    let is_told = |client: &Client, wanted: &[&str]| {
+        let told = lines_of(&client.published);
+        assert!(told.len() == wanted.len() && told.iter().zip(wanted).all(|it| it.0.starts_with(it.1)), "{told:?}");
+    };
+    is_told(&client, &[of_new]);
+    std::fs::write(&gate, "").unwrap();
+    let opened = opened_later(&gate);
+    for (now, wanted) in [
+        ("pub struct New;\npub struct Old;\n", &[][..]),
+        ("pub struct Old;\n", &[of_new]),
+        ("fn alone() {}\n", &[of_new, "src/b.rs:1:8: unresolved import `crate::a::Old`"]),
+        ("fn alone() {}\npub struct Old;\n", &[of_new]),
+        ("pub enum New {}\npub struct Old;\n", &[]),
+    ] {
+        let document = json!({"uri": "file://DIR/src/a.rs"});
+        let params = json!({"textDocument": document, "contentChanges": [{"text": now}]});
+        client.send(&message::notification("textDocument/didChange", params));
+        client.receive_to(|it| it["method"] == "textDocument/publishDiagnostics");
+        is_told(&client, wanted);
+        assert!(gate.exists(), "{now}");
+    }
+    let _ = opened.send(());
+    client.exchange(&[]);
+    is_told(&client, &[]);
+    assert_eq!(client.end(), 1);
+}
+
 /// What isn't resolved the program isn't asked again behind an edit that leaves what is told as it is.
 #[cfg(unix)]
 #[test]

@@ -1,14 +1,14 @@
-//! Edits of which it is known before the program has them that they change nothing of what is told.
+//! Edits of which it is known before the program has them what is told: the same, or the same but for imports.
 
 use std::path::Path;
 
-use cargo_nogsimat::workspace::{key_of, parse_text, SameBy, Workspace};
+use cargo_nogsimat::report::Report;
+use cargo_nogsimat::workspace::{key_of, parse_text, KnownBy, Workspace};
 
-use crate::common::{market, open, package, Dice};
+use crate::common::{market, open, open_brief, package, Dice};
 
 /// What is told, but for lines and columns.
-fn told(space: &mut Workspace) -> Vec<String> {
-    let report = space.report().unwrap();
+fn told(report: &Report) -> Vec<String> {
     let text = |it: &cargo_nogsimat::report::Diagnostic| {
         format!("{}: {}: {}: {}: {:?}", it.place.file, it.kind, it.message, it.label, it.notes)
     };
@@ -17,24 +17,27 @@ fn told(space: &mut Workspace) -> Vec<String> {
     all
 }
 
-/// By what it is known that a text changes nothing. Then the program has it, and tells the same if that is known, as does
-/// another session that is asked again.
-fn known([space, other]: &mut [Workspace; 2], path: &Path, text: &str, why: &str) -> Option<SameBy> {
+/// By what it is known what is told with a text. Then the program has it, and tells that if it is known, as does another
+/// session that is asked again.
+fn known([space, other]: &mut [Workspace; 2], path: &Path, text: &str, why: &str) -> Option<KnownBy> {
     let key = key_of(path).unwrap();
-    let before = told(space);
+    let before = told(&space.report().unwrap());
     let parsed = parse_text(path, &key, text);
-    let made = space.reports_same(&key, &parsed, true).unwrap();
+    let made = space.knows_report(&key, &parsed, true).unwrap();
+    let ahead = told(&space.report_ahead(&key).unwrap());
+    assert_eq!(told(&space.report().unwrap()), before, "{why}");
     space.update_text(path, text).unwrap();
     other.update_text(path, text).unwrap();
-    let now = told(space);
-    assert_eq!(now, told(other), "{why}");
+    let now = told(&space.report().unwrap());
+    assert_eq!(now, told(&other.report().unwrap()), "{why}");
     if made.is_some() {
-        assert_eq!(now, before, "{why}");
+        assert_eq!(now, ahead, "{why}");
+        assert!(now == before || made == BY_IMPORTS, "{why}");
     }
     made
 }
 
-const ROOT: &str = "mod a;\nmod b;\npub mod c;\nmod d;\npub use a::f;\n\
+const ROOT: &str = "mod a;\nmod b;\npub mod c;\nmod d;\nmod e;\npub use a::f;\n\
     macro_rules! m { () => { pub struct M; pub use crate::a::Later as FromM; } }\nm!();\n\
     use crate::nothing;\nuse std::none::Such;\n";
 const A: &str = "pub fn f() {}\npub struct Later;\npub mod k { pub struct Deep; pub enum Way { Up, Down } }\n";
@@ -44,13 +47,17 @@ const C: &str = "pub struct Shared;\npub fn helper() {}\npub(in crate::c) mod wi
 const D: &str = "use super::*;\nuse self::c::helper as other;\nuse super::super::above;\n\
     mod twice { pub fn first() {} }\nmod twice { pub fn second() {} }\nmod once { pub fn third() {} }\n";
 
-const BY_NAMES: Option<SameBy> = Some(SameBy::Names);
-const BY_LOOK_UPS: Option<SameBy> = Some(SameBy::LookUps);
-const UNJUDGED: Option<SameBy> = Some(SameBy::Unjudged);
+const E: &str = "use crate::c::Coming;\npub use crate::a::Missing as Found;\nuse super::e::Found as Again;\n\
+    mod inner { pub use super::*; }\nuse inner::Found as Within;\nuse crate::c::{Twofold, Twofold as Other};\n";
+
+const BY_NAMES: Option<KnownBy> = Some(KnownBy::Names);
+const BY_LOOK_UPS: Option<KnownBy> = Some(KnownBy::LookUps);
+const UNJUDGED: Option<KnownBy> = Some(KnownBy::Unjudged);
+const BY_IMPORTS: Option<KnownBy> = Some(KnownBy::Imports);
 
 /// Each edit of what is behind the texts above: the file, what stands there, what comes in its place (behind the text
-/// where nothing stands there), and by what it is known that the same is told.
-const EDITS: [(&str, &str, &str, Option<SameBy>); 48] = [
+/// where nothing stands there), and by what it is known what is told.
+const EDITS: [(&str, &str, &str, Option<KnownBy>); 65] = [
     // Names that stand nowhere else.
     ("c", "", "fn alone() {}\n", BY_NAMES),
     ("c", "pub fn helper() {}", "pub fn helper() {} pub struct Alone;", BY_NAMES),
@@ -88,7 +95,26 @@ const EDITS: [(&str, &str, &str, Option<SameBy>); 48] = [
     ("c", "", "use crate::a::k::*;\n", None),
     ("c", "", "#[cfg(all())] use crate::a::f;\n", None),
     ("c", "", "use crate::a::{f::{self}};\n", None),
-    ("c", "pub struct Shared;", "", None),
+    // Items that imports alone look up, by their names and those that they give them, also through globs.
+    ("c", "pub struct Shared;", "", BY_IMPORTS),
+    ("c", "pub fn helper() {}", "", BY_IMPORTS),
+    ("c", "", "pub struct Coming;\n", BY_IMPORTS),
+    ("c", "", "pub(crate) fn Coming() {}\n", BY_IMPORTS),
+    ("c", "", "pub(super) enum Coming { A }\n", BY_IMPORTS),
+    ("c", "", "pub struct Twofold(u8);\n", BY_IMPORTS),
+    ("c", "pub struct Shared;", "pub struct Coming;", BY_IMPORTS),
+    ("a", "", "pub struct Missing;\n", BY_IMPORTS),
+    ("a", "", "pub(crate) struct Missing;\n", BY_IMPORTS),
+    ("a", "pub fn f() {}", "", BY_IMPORTS),
+    // Not seen there, beside another, by what a call expands to, or not by imports alone.
+    ("c", "", "struct Coming;\n", None),
+    ("c", "", "pub(self) enum Coming { A }\n", None),
+    ("c", "", "pub struct Coming; fn Coming() {}\n", None),
+    ("c", "pub struct Shared;", "pub(crate) struct Shared;", None),
+    ("a", "pub struct Later;", "", None),
+    ("lib", "", "fn nothing() {}\n", None),
+    ("lib", "", "fn inner() {}\n", BY_LOOK_UPS),
+    ("e", "", "fn Found() {}\n", None),
     ("c", "", "use crate::a::f as within;\n", BY_LOOK_UPS),
     ("a", "", "use crate::a::f as c;\n", None),
     ("lib", "", "use crate::a::Later as nothing;\n", None),
@@ -107,7 +133,7 @@ const EDITS: [(&str, &str, &str, Option<SameBy>); 48] = [
 
 #[test]
 fn edits_that_change_nothing_of_what_is_told() {
-    let texts = [("lib", ROOT), ("a", A), ("b", B), ("c", C), ("d", D)];
+    let texts = [("lib", ROOT), ("a", A), ("b", B), ("c", C), ("d", D), ("e", E)];
     let files: Vec<(String, &str)> = texts.iter().map(|(name, text)| (format!("src/{name}.rs"), *text)).collect();
     let files: Vec<(&str, &str)> = files.iter().map(|(name, text)| (&**name, *text)).collect();
     let folder = package(&files);
@@ -190,6 +216,83 @@ fn random_edits_of_the_example() {
         by_look_ups += usize::from(made == BY_LOOK_UPS || made == UNJUDGED);
     }
     assert!(by_look_ups > 60, "{by_look_ups}");
+}
+
+const MODULES: [&str; 4] = ["a", "b", "c", "d"];
+const NAMES: [&str; 7] = ["One", "Two", "Three", "Four", "Five", "Six", "Seven"];
+
+/// A line that comes into a file with others: an item that isn't there, or an import of another module's.
+fn random_line(others: &[String], number: usize, dice: &mut Dice) -> String {
+    let mut one_of = |all: &[&'static str]| all[dice.below(all.len())];
+    let visibility = one_of(&["pub ", "pub ", "pub ", "pub(crate) ", "pub(super) ", ""]);
+    let (module, name) = (one_of(&MODULES), one_of(&NAMES));
+    let is_item = |it: &String| !it.contains("use ") && it.contains(name);
+    match one_of(&["struct", "tuple", "enum", "fn", "struct", "enum", "import", "named"]) {
+        "import" => format!("{visibility}use super::{module}::{name} as As{number};"),
+        "named" => format!("{visibility}use crate::{module}::{name};"),
+        _ if others.iter().any(is_item) => format!("{visibility}fn alone_{number}() {{}}"),
+        "struct" => format!("{visibility}struct {name};"),
+        "tuple" => format!("{visibility}struct {name}(u8);"),
+        "enum" => format!("{visibility}enum {name} {{ A }}"),
+        _ => format!("{visibility}fn {name}() {{}}"),
+    }
+}
+
+/// The module and the name to which an import leads, if it is one of a name.
+fn imported(line: &str) -> Option<(usize, String)> {
+    let (module, rest) = line.split_once("::")?.1.split_once("::")?;
+    let name = rest.split([' ', ';']).next().filter(|it| *it != "*")?;
+    Some((MODULES.iter().position(|it| *it == module)?, name.to_owned()))
+}
+
+#[test]
+fn random_edits_of_items_and_imports() {
+    let mut dice = Dice(46);
+    let (mut by_imports, mut of_files) = (0, 0);
+    for session in 0..6 {
+        let mut files: Vec<Vec<String>> = vec![Vec::new(); MODULES.len()];
+        for (at, lines) in files.iter_mut().enumerate() {
+            if session % 4 > at {
+                lines.push(format!("pub use super::{}::*;", MODULES[dice.below(MODULES.len())]));
+            }
+            (0..8).for_each(|number| lines.push(random_line(lines, number, &mut dice)));
+        }
+        let text = |lines: &[String]| lines.iter().map(|it| format!("{it}\n")).collect::<String>();
+        let folder = package(&[("src/lib.rs", "mod a;\npub mod b;\nmod c;\nmod d;\n")]);
+        let path = |at: usize| folder.path().join(format!("src/{}.rs", MODULES[at]));
+        (0..MODULES.len()).for_each(|at| std::fs::write(path(at), text(&files[at])).unwrap());
+        let mut spaces = [open(folder.path()), open(folder.path())];
+        let mut watched = open_brief(folder.path());
+        watched.report().unwrap();
+        for round in 0..25 {
+            let imported: Vec<(usize, String)> = files.iter().flatten().filter_map(|it| imported(it)).collect();
+            let mut at = dice.below(MODULES.len());
+            if imported.is_empty() || dice.below(5) == 0 {
+                let line = random_line(&files[at], 10 + round, &mut dice);
+                files[at].push(line);
+            } else {
+                // An item that an import names comes, or goes where it is.
+                let (of, name) = &imported[dice.below(imported.len())];
+                at = *of;
+                match files[at].iter().position(|it| !it.contains("use ") && it.contains(&**name)) {
+                    Some(line) => drop(files[at].remove(line)),
+                    None => files[at].push(format!("pub{} struct {name};", ["", "", "(crate)"][dice.below(3)])),
+                }
+            }
+            let (path, text) = (path(at).canonicalize().unwrap(), text(&files[at]));
+            let why = format!("session {session}, round {round}, {}: {files:#?}", MODULES[at]);
+            by_imports += usize::from(known(&mut spaces, &path, &text, &why) == BY_IMPORTS);
+            std::fs::write(&path, &text).unwrap();
+            let ahead = watched.report_of_file(&path).unwrap();
+            watched.update(&[path]).unwrap();
+            let now = watched.report().unwrap();
+            if let Some(ahead) = &ahead {
+                assert_eq!(ahead.diagnostics, now.diagnostics, "watched: {why}");
+            }
+            of_files += usize::from(ahead.is_some());
+        }
+    }
+    assert!(by_imports > 30 && of_files > 8, "{by_imports} {of_files}");
 }
 
 /// What calls are given is looked up too, as the name of a file that another macro writes.

@@ -12,7 +12,7 @@ ghost use Rattle.std.specs.Prelude.{◌≡◌, ◌≢◌, ◌↔◌, ◌++◌, [
 ghost use Rattle.hir_session_state.specs.HirItemTree.SyntaxIds.{node_id};
 ghost use Rattle.hir_session_state.specs.HirDefMapRules.Overlay.{no_maps};
 ghost use Rattle.hir_session_state.specs.HirCollectorRules.Keys.{input_of, look, text_of};
-ghost use Rattle.hir_session_state.specs.Askers.{HoldsExactly};
+ghost use Rattle.hir_session_state.specs.Askers.{HoldsExactly, listed};
 ghost use Rattle.hir_session_state.specs.EditedSources.{seen_at, text_in, AreHit, AreJudged, IsJudged};
 ghost use Rattle.hir_session_state.specs.Inputs.{workspace_after, workspace_by};
 ghost use Rattle.hir_session_invalidation.specs.Invalidated.{AreChanges, IsChange, HasTreesOf};
@@ -30,7 +30,7 @@ use hir_item_tree::check::NodeId;
 use hir_item_tree::source_tree::SourceTree;
 use hir_session_sources::source_edit::SourceEdit;
 use hir_session_sources::source_trees::CrateTrees;
-use hir_session_state::askers::{Askers, KeyAskers};
+use hir_session_state::askers::{Askers, KeyAskers, KeyPlaces};
 use hir_session_state::hir_collector_rules::source_database::Key;
 use hir_session_state::source_number::{key_tree, number_at};
 use hir_tables::Tables;
@@ -165,8 +165,7 @@ fn is_altered(
     Ok(sees_another(&change, key))
 }
 
-/// Adds places to those that are hit.
-fn hit(hits: &mut Vec<MapId>, ids: &BTreeSet<MapId>) -> Result<(), AllocError>
+fn hit_each(hits: &mut Vec<MapId>, ids: &BTreeSet<MapId>) -> Result<(), AllocError>
     ensures ok { OnOk result (hits.new.items ≡ hits.old.items ++ ids.now.keys) }
 {
     for id in ids {
@@ -175,22 +174,32 @@ fn hit(hits: &mut Vec<MapId>, ids: &BTreeSet<MapId>) -> Result<(), AllocError>
     Ok(())
 }
 
+/// Adds places to those that are hit.
+fn hit(hits: &mut Vec<MapId>, places: &KeyPlaces) -> Result<(), AllocError>
+    ensures ok { OnOk result (hits.new.items ≡ hits.old.items ++ listed places.now) }
+{
+    if let Some(first) = places.first() {
+        hits.push(first)?;
+    }
+    hit_each(hits, places.others())
+}
+
 /// Adds the places that asked for a key to those that are hit, if the key is altered.
 fn judge(
     alloc: Global,
     source: &EditedSource<'_>,
     key: Key,
-    ids: &BTreeSet<MapId>,
+    places: &KeyPlaces,
     hits: &mut Vec<MapId>,
     changes: &mut Changes,
 ) -> Result<(), AllocError>
     requires changes { AreChanges source.now.inputs.now (edit_value source.now.edit) changes.old }
     ensures judged { OnOk result (IsJudged source.now.tables.now (workspace_by source.now.inputs.now)
-        (workspace_after source.now.inputs.now (edit_value source.now.edit)) key ids.now.keys hits.old.items hits.new.items) }
+        (workspace_after source.now.inputs.now (edit_value source.now.edit)) key (listed places.now) hits.old.items hits.new.items) }
     ensures changes { OnOk result (AreChanges source.now.inputs.now (edit_value source.now.edit) changes.new) }
 {
     if is_altered(alloc, source, changes, key)? {
-        hit(hits, ids)?;
+        hit(hits, places)?;
     }
     Ok(())
 }
@@ -221,8 +230,8 @@ fn invalidated_among(
         before: BTreeMap::new(alloc),
         after: BTreeMap::new(alloc),
     };
-    for (key, ids) in askers {
-        judge(alloc, source, *key, ids, &mut hits, &mut changes)?;
+    for (key, places) in askers {
+        judge(alloc, source, *key, places, &mut hits, &mut changes)?;
     }
     Ok(Invalidation {
         hits,

@@ -1,10 +1,8 @@
 -- Places are entered at keys, and taken out, one key after another.
-use Rattle.std.proofs.Common.{◌≡◌, ◌∙◌, ap, sym, refl, Bool, true, false, not, ◌&&◌, ◌||◌, cond, Option, Some, None, List, [], ◌∷◌, length, arith}
+use Rattle.std.proofs.Common.{◌≡◌, ◌∙◌, ap, sym, refl, Bool, true, false, not, ◌&&◌, ◌||◌, cond, nat_eq, Option, Some, None, List, [], ◌∷◌}
 use Rattle.std.specs.List.{list_any}
 use Rattle.std.specs.Option.{UnwrapsOrElse}
-use Rattle.std.specs.BTreeMap.{btree_map_len, is_at, IsEmpty as HasNoEntry, IsOrdered as HasOrderedKeys}
-use Rattle.std.specs.BTreeSet.{BTreeSet, btree_set_len, contains, IsEmpty, IsOrdered}
-use Rattle.std.specs.Map.{lookup}
+use Rattle.std.specs.BTreeMap.{is_at}
 use Rattle.std.specs.declared.cmp.Ordering.{Ordering}
 use Rattle.std.proofs.lemmas.List.Folds.{list_any-append}
 use Rattle.hir_collector_rules.specs.HirIds.declared.ids.Crate.{Crate}
@@ -15,14 +13,14 @@ use Rattle.hir_collector_rules.specs.Asked.{IsOwnPart}
 use Rattle.hir_collector_rules.specs.Keys.{config_key, dependency_keys, keys_behind, map_key}
 use Rattle.hir_collector_rules.specs.declared.source_database.Key.{Key}
 use Rattle.hir_collector_rules.specs.contracts.source_database.KeyOrd.TheImpl as key_order
-use Rattle.hir_session_state.specs.contracts.source_number.SourceNumberOrd.TheImpl as number_order
-use Rattle.hir_session_state.specs.contracts.source_number.SourceNumberOrd.TheImpl.Laws.{matches_eq-law as numbers_tie}
-use Rattle.hir_session_state.specs.Askers.{KeyAskers, Enters, has_asked, has_asked_in, is_asked, is_asker, is_entry, is_in, IsSame, IsSameBut, Leaves}
+use Rattle.hir_session_state.specs.Askers.{Enters, IsSame, IsSameBut, Leaves}
+use Rattle.hir_session_state.specs.Askers.{has_place, is_asked, is_asker, is_entry, is_first, is_in}
+use Rattle.hir_session_state.specs.NumberCodes.{number_code}
 use Rattle.hir_session_state.specs.SourceNumbers.{asked_number, asks, is_number}
-use Rattle.hir_session_state.specs.Types.{Askers, SourceNumber}
-use Rattle.hir_session_state.proofs.Ids.{equal_id}
+use Rattle.hir_session_state.specs.Types.{Askers, KeyPlaces, SourceNumber}
+use Rattle.hir_session_state.proofs.Ids.{equal_id, own_id}
 use Rattle.hir_session_state.proofs.KeyIds.{equal_key, own_key}
-use Rattle.hir_session_state.proofs.NumberLemmas.{same_number}
+use Rattle.hir_session_state.proofs.NumberLemmas.{codes_tie}
 use Rattle.hir_session_state.proofs.Truth.{clash, and_right}
 
 abbrev pub is_id : MapId → MapId → Bool
@@ -57,6 +55,10 @@ pub and-false : (a : Bool) → (a && false) ≡ false
 and-false true = refl
 and-false false = refl
 
+pub or-assoc : (a b c : Bool) → (a || (b || c)) ≡ ((a || b) || c)
+or-assoc true b c = refl
+or-assoc false b c = refl
+
 module _ {K V : Type 0} (cmp : K → K → Ordering) (exact : (x y : K) → is_at (cmp x) y ≡ true → x ≡ y) (op : Bool → Bool → Bool)
     (none : (a : Bool) → op a false ≡ a) (f : Option V → Bool) (old : K → Option V) (k : K) (w : Option V) (b : Bool) (is : f w ≡ op (f (old k)) b) where
   -- what is read of the values of a map changes at one key
@@ -86,39 +88,28 @@ absent_at cmp exact has k b gone q = go (is_at (cmp k) q) refl
         none ∙ sym (ap (λ (a : Bool). a && not (true && b)) none)
     go false e = sym (and-true (has q))
 
--- ---- sets and maps that were made where there was none
+-- ---- the places at one key
 
-pub made_set : (found : Option (BTreeSet MapId)) (before : BTreeSet MapId)
-    → UnwrapsOrElse found (λ (made : BTreeSet MapId). IsEmpty made × IsOrdered map_order.ghosts.cmp made) before
-    → (id : MapId) → contains map_order.ghosts.cmp before id ≡ is_in found id
-made_set None before made id = ap (list_any (is_id id)) made.0
-made_set (Some ids) before is id = ap (λ (s : BTreeSet MapId). contains map_order.ghosts.cmp s id) is
-
-pub made_map : (found : Option KeyAskers) (before : KeyAskers)
-    → UnwrapsOrElse found (λ (made : KeyAskers). HasNoEntry made × HasOrderedKeys key_order.ghosts.cmp made) before
-    → (key : Key) (id : MapId) → has_asked before key id ≡ has_asked_in found key id
-made_map None before made key id = ap (λ (es : List (Key × BTreeSet MapId)). is_in (lookup (is_key key) es) id) made.0
-made_map (Some m) before is key id = ap (λ (m : KeyAskers). has_asked m key id) is
-
--- nothing is in one that is empty
-pub empty_set : (ids : BTreeSet MapId) → btree_set_len ids ≡ 0 → (id : MapId) → contains map_order.ghosts.cmp ids id ≡ false
-empty_set ids e id = go ids.keys e
+-- a first place that isn't the one that is taken out is left
+pub spared : (first : Option MapId) (id j : MapId) (had : Bool) → is_first first id ≡ false
+    → (is_first first j || (had && not (is_id id j))) ≡ ((is_first first j || had) && not (is_id id j))
+spared None id j had other = refl
+spared (Some own) id j had other = go (is_id own j) refl (is_id id j) refl
   where
-    go : (xs : List MapId) → length xs ≡ 0 → list_any (is_id id) xs ≡ false
-    go [] e = refl
-    go (x ∷ xs) e = absurd (omega (arith, e))
+    go : (p : Bool) → is_id own j ≡ p → (q : Bool) → is_id id j ≡ q → (p || (had && not q)) ≡ ((p || had) && not q)
+    go true e true f = clash (ap (is_id own) (equal_id id j f ∙ sym (equal_id own j e)) ∙ own_id own) other
+    go true e false f = refl
+    go false e q f = refl
 
-pub empty_map : (m : KeyAskers) → btree_map_len m ≡ 0 → (key : Key) (id : MapId) → has_asked m key id ≡ false
-empty_map m e key id = go m.entries e
-  where
-    go : (es : List (Key × BTreeSet MapId)) → length es ≡ 0 → is_in (lookup (is_key key) es) id ≡ false
-    go [] e = refl
-    go (x ∷ xs) e = absurd (omega (arith, e))
+-- ---- places that were made where there was none
+
+pub made_places : (found : Option KeyPlaces) (before : KeyPlaces)
+    → UnwrapsOrElse found (λ (made : KeyPlaces). (id : MapId) → has_place made id ≡ false) before
+    → (id : MapId) → has_place before id ≡ is_in found id
+made_places None before made id = made id
+made_places (Some places) before is id = ap (λ (p : KeyPlaces). has_place p id) is
 
 -- ---- one key
-
-pub exact_number : (a b : SourceNumber) → is_at (number_order.ghosts.cmp a) b ≡ true → a ≡ b
-exact_number a b e = same_number a b (numbers_tie a b ∙ e)
 
 either_key : (a b : Key) → is_key a b ≡ is_key b a
 either_key a b = go (is_key a b) refl (is_key b a) refl
@@ -134,7 +125,7 @@ either_key a b = go (is_key a b) refl (is_key b a) refl
 -- one that asks for a source is entered there alone
 pub one_entry : (tables : TablesValue) (key : Key) (number : SourceNumber) (own : MapId) → asked_number tables key ≡ Some number
     → (n : SourceNumber) (k : Key) (id : MapId)
-    → (is_at (number_order.ghosts.cmp number) n && (is_key key k && is_id own id)) ≡ is_entry tables (key ∷ []) own n k id
+    → (nat_eq (number_code number) (number_code n) && (is_key key k && is_id own id)) ≡ is_entry tables (key ∷ []) own n k id
 one_entry tables key number own is n k id = go (is_key key k) refl
   where
     bools : (x m : Bool) → (x && (true && m)) ≡ (((true || false) && x) && m)
@@ -142,14 +133,14 @@ one_entry tables key number own is n k id = go (is_key key k) refl
     bools false m = refl
 
     go : (b : Bool) → is_key key k ≡ b
-        → (is_at (number_order.ghosts.cmp number) n && (b && is_id own id)) ≡ (((is_key k key || false) && asks tables n k) && is_id own id)
+        → (nat_eq (number_code number) (number_code n) && (b && is_id own id)) ≡ (((is_key k key || false) && asks tables n k) && is_id own id)
     go true e =
-        bools (is_at (number_order.ghosts.cmp number) n) (is_id own id)
+        bools (nat_eq (number_code number) (number_code n)) (is_id own id)
         ∙ ap (λ (x : Bool). ((true || false) && x) && is_id own id)
-        (sym (numbers_tie number n) ∙ ap (is_number n) (sym is) ∙ ap (asks tables n) (equal_key key k e))
+        (codes_tie number n ∙ ap (is_number n) (sym is) ∙ ap (asks tables n) (equal_key key k e))
         ∙ ap (λ (b : Bool). ((b || false) && asks tables n k) && is_id own id) (sym (either_key k key ∙ e))
     go false e =
-        and-false (is_at (number_order.ghosts.cmp number) n)
+        and-false (nat_eq (number_code number) (number_code n))
         ∙ ap (λ (b : Bool). ((b || false) && asks tables n k) && is_id own id) (sym (either_key k key ∙ e))
 
 -- and one that asks for none nowhere

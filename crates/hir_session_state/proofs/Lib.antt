@@ -17,6 +17,7 @@ pub mod Resolving
 pub mod NumberLemmas
 pub mod KeyIds
 pub mod Entering
+pub mod Numbered
 pub mod Dropping
 pub mod Asking
 pub mod Falling

@@ -1,5 +1,5 @@
 -- Numbers of sources: what they mean, and for which of them keys ask.
-use Rattle.std.proofs.Common.{◌≡◌, ◌≢◌, true, false, Option, Some, None, option_map, option_and_then, refl, sym, ap, ◌∙◌}
+use Rattle.std.proofs.Common.{◌≡◌, ◌≢◌, arith, nat_eq, Bool, true, false, Option, Some, None, option_map, option_and_then, refl, sym, ap, ◌∙◌}
 use Rattle.std.specs.Cmp.{unsigned_Decides}
 use Rattle.std.specs.Prelude.{IsSome}
 use mathlib.Core.Bool.{true≢false}
@@ -18,6 +18,7 @@ use Rattle.hir_session_state.specs.contracts.source_number.SourceNumberPartialEq
 use Rattle.hir_session_state.specs.contracts.source_number.SourceNumberEq.TheImpl.Laws.{laws-law as number_laws}
 use Rattle.hir_session_state.specs.Types.{SourceNumber}
 use Rattle.hir_session_state.specs.declared.source_number.SourceNumber.TheVariants.{File, Block, Expansion}
+use Rattle.hir_session_state.specs.NumberCodes.{number_code}
 use Rattle.hir_session_state.specs.KeySources.{key_place, macro_source, tree_place}
 use Rattle.hir_session_state.specs.SourceNumbers.{IsNumberOf, asked_number, asks, is_number, number_of, number_under, place_at}
 use Rattle.hir_session_state.proofs.Truth.{no_value, one_value, clash}
@@ -32,6 +33,32 @@ same_number a b e = absurd (true≢false (sym e))
 
 own_number : (a : SourceNumber) → number_eq.ghosts.eq a a ≡ true
 own_number a = number_laws.refl a
+
+same_code : (a b : SourceNumber) → number_code a ≡ number_code b → a ≡ b
+same_code (File a) (File b) e = let is : a.0 ≡ b.0 = omega (arith, e) in λ i. File (record { 0 = is i })
+same_code (Block a) (Block b) e = let is : a.0 ≡ b.0 = omega (arith, e) in λ i. Block (record { 0 = is i })
+same_code (Expansion a) (Expansion b) e = let is : a.0 ≡ b.0 = omega (arith, e) in λ i. Expansion (record { 0 = is i })
+same_code (File a) (Block b) e = absurd (omega (arith, e))
+same_code (File a) (Expansion b) e = absurd (omega (arith, e))
+same_code (Block a) (File b) e = absurd (omega (arith, e))
+same_code (Block a) (Expansion b) e = absurd (omega (arith, e))
+same_code (Expansion a) (File b) e = absurd (omega (arith, e))
+same_code (Expansion a) (Block b) e = absurd (omega (arith, e))
+
+-- where two stand at one place of a list, they are one
+pub codes_tie : (a b : SourceNumber) → nat_eq (number_code a) (number_code b) ≡ number_eq.ghosts.eq a b
+codes_tie a b = go (nat_eq (number_code a) (number_code b)) refl (number_eq.ghosts.eq a b) refl
+  where
+    go : (p : Bool) → nat_eq (number_code a) (number_code b) ≡ p → (q : Bool) → number_eq.ghosts.eq a b ≡ q
+        → nat_eq (number_code a) (number_code b) ≡ number_eq.ghosts.eq a b
+    go true e true f = e ∙ sym f
+    go true e false f =
+        let same : a ≡ b = same_code a b ((unsigned_Decides (number_code a) (number_code b)).0 e) in
+        clash (ap (number_eq.ghosts.eq a) (sym same) ∙ own_number a) f
+    go false e true f =
+        let same : number_code a ≡ number_code b = ap number_code (same_number a b f) in
+        clash ((unsigned_Decides (number_code a) (number_code b)).1 same) e
+    go false e false f = e ∙ sym f
 
 -- ---- what they mean
 

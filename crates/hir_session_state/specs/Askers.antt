@@ -1,8 +1,8 @@
 -- Which places asked for which keys of a source? No public clause speaks of this.
-use Rattle.std.specs.Prelude.{◌≡◌, ⊤, ◌&&◌, ◌||◌, Bool, false, cond, not, is_some, List, ◌++◌, Option, None, Some}
+use Rattle.std.specs.Prelude.{◌≡◌, ⊤, ◌&&◌, ◌||◌, Bool, false, cond, not, is_some, ℕ, slice_get, List, ◌∷◌, ◌++◌, Option, None, Some}
 use Rattle.std.specs.List.{list_any}
 use Rattle.std.specs.BTreeMap.{BTreeMap, get, is_at}
-use Rattle.std.specs.BTreeSet.{BTreeSet, contains}
+use Rattle.std.specs.BTreeSet.{contains}
 use Rattle.std.specs.declared.alloc.Global.{Global}
 use Rattle.std.specs.declared.vec.Vec.{Vec}
 use Rattle.hir_collector_rules.specs.HirIds.declared.ids.MapId.{MapId}
@@ -11,19 +11,35 @@ use Rattle.hir_collector_rules.specs.HirTables.Tables.{TablesValue}
 use Rattle.hir_collector_rules.specs.declared.source_database.Key.{Key}
 use Rattle.hir_collector_rules.specs.contracts.source_database.KeyOrd.TheImpl as key_order
 use Rattle.hir_session_state.specs.declared.askers.Askers.{Askers}
+use Rattle.hir_session_state.specs.declared.askers.KeyPlaces.{KeyPlaces}
 use Rattle.hir_session_state.specs.declared.source_number.SourceNumber.{SourceNumber}
-use Rattle.hir_session_state.specs.contracts.source_number.SourceNumberOrd.TheImpl as number_order
 use Rattle.hir_session_state.specs.declared.runs.KeptRun.{KeptRun}
 use Rattle.hir_session_state.specs.Kept.{Resolution, Resolutions, asked_of, kept_in}
+use Rattle.hir_session_state.specs.NumberCodes.{number_code}
 use Rattle.hir_session_state.specs.SourceNumbers.{asks}
 
 -- by a key, the places that asked for it
 abbrev pub KeyAskers : Type 0
-KeyAskers = BTreeMap Key (BTreeSet MapId)
+KeyAskers = BTreeMap Key KeyPlaces
 
-abbrev pub is_in : Option (BTreeSet MapId) → MapId → Bool
+abbrev pub is_first : Option MapId → MapId → Bool
+is_first None id = false
+is_first (Some own) id = is_at (map_order.ghosts.cmp own) id
+
+abbrev pub has_place : KeyPlaces → MapId → Bool
+has_place places id = is_first places.first id || contains map_order.ghosts.cmp places.others id
+
+abbrev pub in_front : Option MapId → List MapId → List MapId
+in_front None ids = ids
+in_front (Some own) ids = own ∷ ids
+
+-- the places in a list
+abbrev pub listed : KeyPlaces → List MapId
+listed places = in_front places.first places.others.keys
+
+abbrev pub is_in : Option KeyPlaces → MapId → Bool
 is_in None id = false
-is_in (Some ids) id = contains map_order.ghosts.cmp ids id
+is_in (Some places) id = has_place places id
 
 -- whether a place is among those that asked for a key
 abbrev pub has_asked : KeyAskers → Key → MapId → Bool
@@ -33,9 +49,13 @@ abbrev pub has_asked_in : Option KeyAskers → Key → MapId → Bool
 has_asked_in None key id = false
 has_asked_in (Some keys) key id = has_asked keys key id
 
+-- the same of a number in a list
+abbrev pub has_asked_at : List KeyAskers → ℕ → Key → MapId → Bool
+has_asked_at lists number key id = has_asked_in (slice_get lists number) key id
+
 -- whether a place is entered at a key of a source
 abbrev pub is_asker : Askers → SourceNumber → Key → MapId → Bool
-is_asker askers number key id = has_asked_in (get number_order.ghosts.cmp askers.by_source number) key id
+is_asker askers number key id = has_asked_at askers.by_source.items (number_code number) key id
 
 -- ---- one place
 

@@ -5,6 +5,7 @@ pub mod Entries
 pub mod SourceTable
 pub mod SourceEdits
 pub mod KeySources
+pub mod NumberCodes
 pub mod SourceNumbers
 pub mod Inputs
 pub mod Askers

@@ -1,5 +1,6 @@
 -- The types of the crate, under their names.
 pub use Rattle.hir_session_state.specs.declared.askers.Askers.{Askers}
+pub use Rattle.hir_session_state.specs.declared.askers.KeyPlaces.{KeyPlaces}
 pub use Rattle.hir_session_state.specs.declared.error.DiagnosticsError.{DiagnosticsError}
 pub use Rattle.hir_session_state.specs.declared.error.EditError.{EditError}
 pub use Rattle.hir_session_state.specs.declared.error.ImplItemsError.{ImplItemsError}

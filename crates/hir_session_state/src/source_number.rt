@@ -5,6 +5,7 @@ ghost use Rattle.hir_collector_rules.specs.HirTables.Tables.{HasEachOnce};
 ghost use Rattle.hir_collector_rules.specs.Keys.{macro_key};
 ghost use Rattle.hir_session_state.specs.declared.source_number.SourceNumber.{SourceNumber as Number};
 ghost use Rattle.hir_session_state.specs.KeySources.{key_tree, macro_source};
+ghost use Rattle.hir_session_state.specs.NumberCodes.{number_code};
 ghost use Rattle.hir_session_state.specs.SourceNumbers.{asked_number, number_under, place_at};
 
 use hir_base::ast_id::{BlockId, EntryId, FileId, HirFileId};
@@ -20,6 +21,19 @@ pub enum SourceNumber {
     File(FileId),
     Block(BlockId),
     Expansion(EntryId),
+}
+
+impl SourceNumber {
+    /// A number of its own for each, of files, blocks and expansions in turn.
+    pub fn code(self) -> usize
+        ensures value { result ≡ number_code self }
+    {
+        match self {
+            SourceNumber::File(id) => id.0 as usize * 3,
+            SourceNumber::Block(id) => id.0 as usize * 3 + 1,
+            SourceNumber::Expansion(id) => id.0 as usize * 3 + 2,
+        }
+    }
 }
 
 /// The number of a tree's source.

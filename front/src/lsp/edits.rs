@@ -10,10 +10,10 @@ use super::text::Text;
 use anyhow::Result;
 use serde_json::{json, Value};
 
-use super::{key_of_place, span_of, Phase, Server, Waiting, ERROR};
+use super::{key_of_place, span_of, Document, Phase, Server, Waiting, ERROR};
 use crate::report::Diagnostic;
 use crate::unit::Built;
-use crate::workspace::{bytes_of, parse_text, path_of_key, Key, Parsed, SameBy};
+use crate::workspace::{bytes_of, parse_text, path_of_key, Key, KnownBy, Parsed};
 
 /// What became of a text.
 pub(super) enum Reading {
@@ -21,7 +21,7 @@ pub(super) enum Reading {
     Taken,
     /// It doesn't parse.
     Broken,
-    /// What stands in it isn't handed in yet: what is told is the same, but for places.
+    /// What stands in it isn't handed in yet: what is told is known.
     Waits(Waiting),
 }
 
@@ -92,18 +92,22 @@ impl<W: Write> Server<W> {
             // Where the items stand that are told of has to be known.
             let is_known = document.is_some_and(|it| it.good.is_some());
             let is_mended = is_present && self.errors.remove(&key).is_some();
-            self.needs_report |= is_mended || self.touched.contains(&key);
+            // What was told ahead was so of another text.
+            self.needs_report |= is_mended || self.touched.contains(&key) || self.has_told_ahead;
             if space.take_unchanged(&key, &parsed) {
                 readings.push((key, text, Reading::Taken));
                 continue;
             }
-            let same_by = match is_known {
-                true => self.with_space(|it| it.reports_same(&key, &parsed, may_wait))?.flatten(),
+            let known_by = match is_known {
+                true => self.with_space(|it| it.knows_report(&key, &parsed, may_wait))?.flatten(),
                 false => None,
             };
-            let may_wait = |it: &SameBy| may_wait && self.may_wait_beside_others(&key, *it, &readings);
-            let reading = match same_by.filter(may_wait) {
-                Some(same_by) => Reading::Waits(Waiting { text: text.clone(), parsed, same_by }),
+            let may_wait = |it: &KnownBy| may_wait && self.may_wait_beside_others(&key, *it, &readings);
+            let reading = match known_by.filter(may_wait) {
+                Some(known_by) => {
+                    self.needs_report |= known_by == KnownBy::Imports;
+                    Reading::Waits(Waiting { text: text.clone(), parsed, known_by })
+                }
                 None => {
                     work.push((key.clone(), parsed));
                     Reading::Taken
@@ -119,13 +123,13 @@ impl<W: Write> Server<W> {
     }
 
     /// Whether a text may wait beside those that do. What is known by what the program has is known of one text alone.
-    fn may_wait_beside_others(&self, key: &Key, same_by: SameBy, readings: &[(Key, Arc<Text>, Reading)]) -> bool {
+    fn may_wait_beside_others(&self, key: &Key, known_by: KnownBy, readings: &[(Key, Arc<Text>, Reading)]) -> bool {
         let before = self.documents.iter().filter(|it| it.0 != key).filter_map(|it| it.1.waits.as_ref());
         let now = readings.iter().filter_map(|it| match &it.2 {
             Reading::Waits(it) => Some(it),
             _ => None,
         });
-        before.chain(now).all(|it| it.same_by == SameBy::Names && same_by == SameBy::Names)
+        before.chain(now).all(|it| it.known_by == KnownBy::Names && known_by == KnownBy::Names)
     }
 
     /// Takes all texts that wait among those that are handed in, which may name what stands in them.
@@ -201,7 +205,13 @@ impl<W: Write> Server<W> {
         if !std::mem::take(&mut self.needs_report) || self.phase != Phase::Serving {
             return Ok(());
         }
-        let report = self.with_space(|it| it.report())?;
+        let is_ahead = |it: &Document| it.waits.as_ref().is_some_and(|it| it.known_by == KnownBy::Imports);
+        let ahead = self.documents.iter().find(|it| is_ahead(it.1)).map(|it| it.0.clone());
+        let report = self.with_space(|it| match &ahead {
+            Some(key) => it.report_ahead(key),
+            None => it.report(),
+        })?;
+        self.has_told_ahead = ahead.is_some();
         // A new start of the program asks for a report, which this one is.
         self.needs_report = false;
         self.publish(report.map(|it| it.diagnostics).unwrap_or_default())

@@ -13,7 +13,7 @@ use crate::unit::{steps_of, Detail, Id, Leaf};
 use crate::workspace::{Bound as BoundName, Key, Leads, Located, ModulePlace, PastItem, Workspace};
 
 /// An import that isn't resolved, while it is looked into.
-pub(super) struct Import {
+pub(crate) struct Import {
     pub krate: u32,
     pub located: Located,
     pub path: String,
@@ -36,8 +36,20 @@ pub(crate) struct Reached {
     similar: Option<Arc<str>>,
 }
 
+impl Reached {
+    /// So many names are reached, and the next isn't there.
+    pub fn to(count: usize, last: Value) -> Reached {
+        Reached { count, last, ..Reached::default() }
+    }
+
+    /// What the last name is that is reached.
+    pub fn last(&self) -> &Value {
+        &self.last
+    }
+}
+
 /// As answers have them.
-const NAMESPACES: [&str; 3] = ["types", "values", "macros"];
+pub(crate) const NAMESPACES: [&str; 3] = ["types", "values", "macros"];
 
 /// How many letters differ between two names, at most `most`: a letter more, one less, another one, or two in turn.
 fn distance(one: &[char], other: &[char], most: usize) -> Option<usize> {
@@ -98,7 +110,7 @@ pub(crate) fn past_items(
 }
 
 /// The path up to each of its names but the last. Of an import in the edition 2015 it counts from the crate's root.
-pub(super) fn prefixes(path: &str, is_old: bool) -> Vec<String> {
+pub(crate) fn prefixes(path: &str, is_old: bool) -> Vec<String> {
     let names = names_of(path);
     let is_plain = !matches!(names[0].as_str(), "crate" | "self" | "super") && !names[0].starts_with('$');
     let before = if path.starts_with("::") || (is_old && is_plain) { "::" } else { "" };
@@ -220,7 +232,7 @@ impl Workspace {
         }
     }
 
-    pub(super) fn import(&self, krate: u32, it: &Value) -> Option<Import> {
+    pub(crate) fn import(&self, krate: u32, it: &Value) -> Option<Import> {
         let located = self.locate(krate, &it["item"])?;
         let Detail::Use(leaves) = &located.node.detail else {
             return None;

@@ -26,7 +26,7 @@ pub(super) struct UnitAt {
     pub place: Vec<Step>,
     pub file: Key,
     /// Where the outermost call stands that brings it.
-    call: Option<Span>,
+    pub call: Option<Span>,
 }
 
 /// An item of a trait or an impl.

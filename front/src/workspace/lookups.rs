@@ -1,5 +1,6 @@
 //! Edits of items and imports whose names stand elsewhere too, by which what is told stays the same: the imports that come
-//! or go lead to something, and no path looks up one of the names in a module that has it or takes it by a glob.
+//! or go lead to something, and no path looks up one of the names in a module that has it or takes it by a glob. Where
+//! imports do, what is told of them may be known too ([`super::ahead`]).
 //!
 //! A path looks its first name up in the module in which it stands, and each further one in the module to which it leads
 //! so far, which the program is asked. Where none of these look-ups meets a name that comes or goes, each ends as before.
@@ -10,13 +11,15 @@ use std::sync::Arc;
 use anyhow::Result;
 use serde_json::Value;
 
+use super::associated::UnitAt;
 use super::recorded::caller_of;
 use super::unnamed::{is_plain_name, is_plain_visibility, plain_names, Changes, MOST_NAMES};
-use super::{Key, ModulePlace, SameBy, Workspace};
+use super::{Ahead, Key, KnownBy, ModulePlace, Seen, Workspace};
 use crate::cfg::Options;
 use crate::question::{names_of, Context};
+use crate::syntax::Visibility;
 use crate::unit::{
-    is_builtin, joined, numbered, paths_of, place_json, quoted, steps_of, Built, Derives, Detail, Node, Step,
+    is_builtin, joined, numbered, paths_of, place_json, quoted, steps_of, Built, Derives, Detail, Id, Node, Step,
 };
 
 /// The replies to more questions may take longer than it takes to resolve the crate.
@@ -134,15 +137,47 @@ enum Place {
     Behind(usize),
 }
 
+/// A look-up of a name.
+pub(super) struct LookUp {
+    pub name: String,
+    place: Place,
+    /// The import whose path ends with the name, behind others.
+    pub end_of: Option<Importing>,
+}
+
+/// A leaf of a `use` in a file, or in what a call expands to, that binds a name.
+#[derive(Clone)]
+pub(super) struct Importing {
+    pub krate: u32,
+    /// The module in which it is.
+    pub module: Vec<Step>,
+    pub file: Key,
+    pub is_expanded: bool,
+    pub node: Id,
+    /// Its place in the `use`.
+    pub leaf: usize,
+    pub path: String,
+    pub binds: Arc<str>,
+    /// Who sees what it binds, where that is known without the program.
+    pub seen: Option<Seen>,
+}
+
+/// A glob: where it leads from, the module in which it is, and who sees what it brings.
+pub(super) struct Glob {
+    pub from: ModulePlace,
+    pub to: ModulePlace,
+    pub seen: Option<Seen>,
+}
+
 /// Questions, each once.
 #[derive(Default)]
-struct Questions {
-    lines: Vec<String>,
+pub(super) struct Questions {
+    pub lines: Vec<String>,
     numbers: HashMap<String, usize>,
 }
 
 impl Questions {
-    fn add(&mut self, line: String) -> usize {
+    pub fn add(&mut self, line: String) -> usize {
         *self.numbers.entry(line).or_insert_with_key(|line| {
             self.lines.push(line.clone());
             self.lines.len() - 1
@@ -151,11 +186,39 @@ impl Questions {
 }
 
 /// A file, or what a call expands to.
-struct Source {
-    krate: u32,
-    place: Vec<Step>,
+pub(super) struct Source {
+    pub krate: u32,
+    pub place: Vec<Step>,
     file: Key,
-    built: Arc<Built>,
+    is_expanded: bool,
+    pub built: Arc<Built>,
+}
+
+/// Who sees what a node binds.
+fn seen_by(node: &Node, module: &ModulePlace) -> Option<Seen> {
+    match &node.visibility {
+        Visibility::Private | Visibility::Own => Seen::by("self", module),
+        Visibility::Crate => Seen::by("crate", module),
+        Visibility::Public => Seen::by("pub", module),
+        Visibility::In(path) => Seen::by(&path.text, module),
+    }
+}
+
+/// A leaf of a `use` by which a path that ends with a name binds something.
+fn importing(source: &Source, node: &Node, at: usize) -> Option<Importing> {
+    let leaf = node.leaves().get(at).filter(|it| !it.is_self)?;
+    let module = node.place_in(&source.place);
+    Some(Importing {
+        krate: source.krate,
+        file: source.file.clone(),
+        is_expanded: source.is_expanded,
+        node: node.id,
+        leaf: at,
+        path: leaf.path.clone(),
+        binds: leaf.binds.clone()?,
+        seen: seen_by(node, &(source.krate, module.clone())),
+        module,
+    })
 }
 
 /// The paths that the program looks up for a node, but for what is in it.
@@ -192,14 +255,14 @@ fn is_bound(reply: &Value, krate: u32, is_self: bool) -> bool {
     reply["ok"]["stop"].is_null() && namespaces.iter().any(is_seen)
 }
 
-/// The names that modules have or take by globs, each of which leads from the first module to the second.
+/// The names that modules have or take by globs.
 fn with_globs(
     mut names: HashMap<ModulePlace, HashSet<String>>,
-    globs: &[(ModulePlace, ModulePlace)],
+    globs: &[Glob],
 ) -> HashMap<ModulePlace, HashSet<String>> {
     loop {
         let mut is_done = true;
-        for (from, to) in globs {
+        for Glob { from, to, .. } in globs {
             let taken = names.get(from).cloned().unwrap_or_default();
             let has = names.entry(to.clone()).or_default();
             is_done &= taken.is_subset(has);
@@ -212,15 +275,15 @@ fn with_globs(
 }
 
 impl Workspace {
-    /// Whether these changes of a file of one crate leave what is told as it is, and by what that is known. `now` is what the
-    /// file is then.
-    pub(super) fn looks_up_same(
+    /// By what it is known what is told after these changes of a file of one crate, and what is another then. `now` is what
+    /// the file is then.
+    pub(super) fn known_by_look_ups(
         &mut self,
         krate: u32,
         key: &Key,
         changes: &Changes,
         now: &Built,
-    ) -> Result<Option<SameBy>> {
+    ) -> Result<Option<(KnownBy, Ahead)>> {
         let Some(module) = self.module_of(krate, key).map(steps_of) else {
             return Ok(None);
         };
@@ -259,18 +322,39 @@ impl Workspace {
         if !unbound.iter().all(|it| is_unjudged(*it)) {
             return Ok(None);
         }
-        let globs: Vec<(ModulePlace, ModulePlace)> =
-            globs.into_iter().filter_map(|(number, to)| Some((leads(number)?, to))).collect();
+        let globs: Vec<Glob> =
+            globs.into_iter().filter_map(|(number, to, seen)| Some(Glob { from: leads(number)?, to, seen })).collect();
         let names = with_globs(names, &globs);
-        let is_met = |(name, place): &(String, Place)| {
-            let module = match place {
-                Place::In(it) => Some(it.clone()),
-                Place::Behind(number) => leads(*number),
-            };
-            module.is_some_and(|it| names.get(&it).is_some_and(|names| names.contains(name)))
+        let is_met = |it: &LookUp| {
+            let module = self.place_looked_in(it, &replies);
+            module.is_some_and(|module| names.get(&module).is_some_and(|names| names.contains(&it.name)))
         };
-        let same_by = if unbound.is_empty() { SameBy::LookUps } else { SameBy::Unjudged };
-        Ok(Some(same_by).filter(|_| !look_ups.iter().any(is_met)))
+        let made = match (look_ups.iter().any(is_met), imports.is_empty()) {
+            (false, _) if unbound.is_empty() => Some((KnownBy::LookUps, Ahead::default())),
+            (false, _) => Some((KnownBy::Unjudged, Ahead::default())),
+            (true, false) => None,
+            (true, true) => {
+                let made = self.imports_ahead((krate, module), key, changes, now, &sources, &globs)?;
+                made.map(|it| (KnownBy::Imports, it))
+            }
+        };
+        Ok(made.filter(|it| !self.has_similar_of(&names, &it.1)))
+    }
+
+    /// The module in which a name is looked up, by the replies to the questions that were noted for it.
+    pub(super) fn place_looked_in(&self, it: &LookUp, replies: &[Value]) -> Option<ModulePlace> {
+        match &it.place {
+            Place::In(it) => Some(it.clone()),
+            Place::Behind(number) => self.place_of_module(&replies[*number]["ok"]["types"]["def"]),
+        }
+    }
+
+    /// Whether a name that is like the one which an import doesn't reach may come from these modules, where such names are
+    /// told.
+    fn has_similar_of(&self, names: &HashMap<ModulePlace, HashSet<String>>, ahead: &Ahead) -> bool {
+        let is_of = |definition: &Value| self.place_of_module(definition).is_some_and(|it| names.contains_key(&it));
+        let reached = self.reached.iter().flat_map(|(krate, it)| ahead.reached(*krate).unwrap_or(&it.1));
+        self.is_brief && reached.map(|it| it.last()).any(is_of)
     }
 
     /// The files of the crates from this one on, and what their calls expand to.
@@ -278,13 +362,17 @@ impl Workspace {
         let is_module = |it: &[Step]| it.iter().all(|it| matches!(it, Step::Module(_)));
         let of_crate = |krate: u32| {
             let units = self.units(krate).into_iter().filter(|it| is_module(&it.place));
-            units.map(|it| Source { krate, place: it.place, file: it.file, built: it.built }).collect::<Vec<_>>()
+            let source = |it: UnitAt| {
+                let is_expanded = it.call.is_some();
+                Source { krate, place: it.place, file: it.file, is_expanded, built: it.built }
+            };
+            units.map(source).collect::<Vec<_>>()
         };
         (krate..self.states.len() as u32).flat_map(of_crate).collect()
     }
 
     /// What looks one of the names up that come or go. None where that isn't known.
-    fn look_ups(
+    pub(super) fn look_ups(
         &self,
         krate: u32,
         key: &Key,
@@ -292,7 +380,7 @@ impl Workspace {
         now: &Built,
         sources: &[Source],
         questions: &mut Questions,
-    ) -> Option<Vec<(String, Place)>> {
+    ) -> Option<Vec<LookUp>> {
         let names: HashSet<&str> = changed.values().flatten().map(|it| &**it).collect();
         let has_name = |it: &Built| names.iter().any(|name| it.has_word(name));
         // A macro at the root of a crate may be called by its name alone in others.
@@ -311,7 +399,9 @@ impl Workspace {
                 (&self.crates.all[source.krate as usize], self.left_out(source.krate, &source.file));
             for node in built.nodes.iter().filter(|it| !it.is_left_out && it.of.is_none()) {
                 let place = node.place_in(&source.place);
-                for (path, context) in paths_of_node(node, &of_crate.options, left_out) {
+                for (number, (path, context)) in
+                    paths_of_node(node, &of_crate.options, left_out).into_iter().enumerate()
+                {
                     let is_global = path.starts_with("::");
                     let path_names = names_of(&path);
                     for (at, name) in path_names.iter().enumerate().filter(|it| names.contains(&**it.1)) {
@@ -319,18 +409,25 @@ impl Workspace {
                             let before = if is_global { "::" } else { "" };
                             let before = format!("{before}{}", path_names[..at].join("::"));
                             let question = self.question_in(source.krate, &place, &before, context);
-                            made.push((name.clone(), Place::Behind(questions.add(question))));
+                            let is_end = at + 1 == path_names.len() && context == Context::Import;
+                            let end_of = is_end.then(|| importing(source, node, number)).flatten();
+                            let place = Place::Behind(questions.add(question));
+                            made.push(LookUp { name: name.clone(), place, end_of });
                             continue;
                         }
                         let is_single = path_names.len() == 1 && context != Context::Import;
                         if is_single && source.krate != krate && of_root.is_some_and(|it| it.contains(name)) {
                             return None;
                         }
+                        let mut add = |module: &[Step]| {
+                            let place = Place::In((source.krate, module.to_vec()));
+                            made.push(LookUp { name: name.clone(), place, end_of: None });
+                        };
                         if of_crate.edition == "2015" {
-                            made.push((name.clone(), Place::In((source.krate, Vec::new()))));
+                            add(&[]);
                         }
                         if !is_global {
-                            made.push((name.clone(), Place::In((source.krate, place.clone()))));
+                            add(&place);
                         }
                     }
                 }
@@ -343,9 +440,13 @@ impl Workspace {
         (!is_unknown).then_some(made)
     }
 
-    /// The globs in these: the number of the question where each leads, and the module in which it stands. None where one
-    /// has no path.
-    fn globs_of(&self, sources: &[Source], questions: &mut Questions) -> Option<Vec<(usize, ModulePlace)>> {
+    /// The globs in these: the number of the question where each leads, the module in which it stands, and who sees what it
+    /// brings. None where one has no path.
+    fn globs_of(
+        &self,
+        sources: &[Source],
+        questions: &mut Questions,
+    ) -> Option<Vec<(usize, ModulePlace, Option<Seen>)>> {
         let mut made = Vec::new();
         for source in sources {
             for (node, leaves) in source.built.uses().filter(|it| !it.0.is_left_out) {
@@ -353,7 +454,9 @@ impl Workspace {
                     let path = leaf.path.strip_suffix("::*").filter(|it| !it.is_empty())?;
                     let place = node.place_in(&source.place);
                     let number = questions.add(self.question_in(source.krate, &place, path, Context::Import));
-                    made.push((number, (source.krate, place)));
+                    let place = (source.krate, place);
+                    let seen = seen_by(node, &place);
+                    made.push((number, place, seen));
                 }
             }
         }

@@ -22,6 +22,21 @@ pub(crate) enum Seen {
 }
 
 impl Seen {
+    /// Who sees what is declared in a module with this visibility: a word, or what stands behind `in`. None where a module is
+    /// named.
+    pub fn by(visibility: &str, (krate, module): &ModulePlace) -> Option<Seen> {
+        let above = |count: usize| Some((*krate, module[..module.len().checked_sub(count)?].to_vec()));
+        match visibility {
+            "pub" => return Some(Seen::Everywhere),
+            "crate" => return Some(Seen::InCrate(*krate)),
+            _ => {}
+        }
+        let words: Vec<&str> = visibility.split("::").collect();
+        let supers = if words[0] == "self" { &words[1..] } else { &words };
+        let is_super = |it: &&str| **it == *"super";
+        supers.iter().all(is_super).then(|| above(supers.len())).flatten().map(Seen::Below)
+    }
+
     /// Whether a place sees it.
     pub fn at(&self, krate: u32, place: &[Step]) -> bool {
         match self {

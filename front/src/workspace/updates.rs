@@ -12,20 +12,22 @@ use super::left_out::left_out_of;
 use super::looked_at::{imports, looked_at};
 use super::recorded::caller_of;
 use super::unnamed::{Changes, Edit};
-use super::{Key, Made, Parsed, Sent, Workspace};
+use super::{Ahead, Key, KnownText, Made, Parsed, Sent, Workspace};
 use crate::syntax::Unit;
 use crate::token::Hash;
 use crate::unit::{build_without, quoted, Built, BuiltBlock, Derives, Without};
 
-/// By what it is known that an edit changes no report.
+/// By what it is known what is told after an edit.
 #[derive(Clone, Copy, PartialEq, Eq, Debug)]
-pub enum SameBy {
-    /// The names that come or go stand nowhere else.
+pub enum KnownBy {
+    /// The same is, since the names that come or go stand nowhere else.
     Names,
-    /// Nothing that the program has looks them up.
+    /// The same is, since nothing that the program has looks them up.
     LookUps,
     /// The same, but an import that comes or goes leads into a crate for which a stub stands, so that it isn't judged.
     Unjudged,
+    /// Only imports look them up, which become resolved or unresolved.
+    Imports,
 }
 
 impl Workspace {
@@ -133,7 +135,7 @@ impl Workspace {
     }
 
     /// Makes of the items of a file what is handed in.
-    fn make(&self, key: &Key, krate: u32, unit: &Arc<Unit>, left_out: Derives) -> Made {
+    pub(super) fn make(&self, key: &Key, krate: u32, unit: &Arc<Unit>, left_out: Derives) -> Made {
         self.moved.lock().unwrap_or_else(PoisonError::into_inner).clear();
         let (options, expanded) = (&self.crates.all[krate as usize].options, self.expanded(krate));
         let without = Without { derives: left_out, associated: self.is_brief };
@@ -156,7 +158,7 @@ impl Workspace {
         for (key, parsed) in files {
             let is_same = self.parsed.get(&key).is_some_and(|it| it.text == parsed.text);
             if !is_same && !self.take_same(&key, &parsed) {
-                same.push(self.same.get(&key).filter(|it| it.0 == parsed.text).map(|it| it.1));
+                same.push(self.known.get(&key).filter(|it| it.text == parsed.text).map(|it| it.by));
                 self.parsed.insert(key.clone(), Arc::new(parsed));
                 crates.extend(self.looking_for(&key));
             }
@@ -167,8 +169,8 @@ impl Workspace {
             return Ok(crates);
         }
         // What is known by what the program has is known of one text alone.
-        let is_by_names = same.iter().all(|it| *it == Some(SameBy::Names));
-        self.settle(&crates, !is_circular && (is_by_names || same == [Some(SameBy::LookUps)]))
+        let is_by_names = same.iter().all(|it| *it == Some(KnownBy::Names));
+        self.settle(&crates, !is_circular && (is_by_names || same == [Some(KnownBy::LookUps)]))
     }
 
     /// Takes what [`parse_text`] made in place of what a file holds, where only places are others.
@@ -177,20 +179,20 @@ impl Workspace {
         self.circular.is_empty() && (is_same || self.take_same(key, parsed))
     }
 
-    /// Whether a report would be the same, but for places, with what [`parse_text`] made in place of what a file holds, and
-    /// by what that is known. With `may_ask` the program is asked for it.
-    pub fn reports_same(&mut self, key: &Key, parsed: &Parsed, may_ask: bool) -> Result<Option<SameBy>> {
-        if let Some((_, by)) = self.same.get(key).filter(|it| it.0 == parsed.text) {
-            return Ok(Some(*by));
+    /// By what it is known what is told with what [`parse_text`] made in place of what a file holds: the same, but for places,
+    /// or what [`Workspace::report_ahead`] has. With `may_ask` the program is asked for it.
+    pub fn knows_report(&mut self, key: &Key, parsed: &Parsed, may_ask: bool) -> Result<Option<KnownBy>> {
+        if let Some(it) = self.known.get(key).filter(|it| it.text == parsed.text) {
+            return Ok(Some(it.by));
         }
-        let made = self.find_same(key, parsed, may_ask)?;
-        if let Some(it) = made {
-            self.same.insert(key.clone(), (parsed.text, it));
-        }
-        Ok(made)
+        let Some((by, ahead)) = self.find_known(key, parsed, may_ask)? else {
+            return Ok(None);
+        };
+        self.known.insert(key.clone(), KnownText { text: parsed.text, by, ahead });
+        Ok(Some(by))
     }
 
-    fn find_same(&mut self, key: &Key, parsed: &Parsed, may_ask: bool) -> Result<Option<SameBy>> {
+    fn find_known(&mut self, key: &Key, parsed: &Parsed, may_ask: bool) -> Result<Option<(KnownBy, Ahead)>> {
         let of = self.crates_of(key);
         let (Some(sent), &[krate]) = (self.sent.get(key), &of[..]) else {
             return Ok(None);
@@ -222,11 +224,12 @@ impl Workspace {
                 let mut expansions = self.expansions.iter().filter(|it| is_above(it.0));
                 files.iter().any(|it| it.has_word(name)) || expansions.any(|it| it.1.built.has_word(name))
             });
-        if are_unnamed {
-            return Ok(Some(SameBy::Names));
+        // A name that is like one which an import doesn't reach may be told.
+        if are_unnamed && !(self.is_brief && self.reached.values().any(|it| !it.1.is_empty())) {
+            return Ok(Some((KnownBy::Names, Ahead::default())));
         }
         match may_ask && krate as usize >= self.crates.of_std {
-            true => self.looks_up_same(krate, key, &changes, &now),
+            true => self.known_by_look_ups(krate, key, &changes, &now),
             false => Ok(None),
         }
     }

@@ -57,7 +57,13 @@ pub fn open(folder: &Path) -> Workspace {
     open_with(folder, &program::find(None).unwrap())
 }
 
-/// The same with another program.
+/// The same for reports alone.
+pub fn open_brief(folder: &Path) -> Workspace {
+    let wanted = Wanted { path: folder.to_owned(), no_std: true, ..Wanted::default() };
+    Workspace::open_brief(Crates::read(&wanted).unwrap(), &program::find(None).unwrap(), None, |_, _, _| {}).unwrap()
+}
+
+/// As [`open`], with another program.
 pub fn open_with(folder: &Path, program: &Path) -> Workspace {
     let wanted = Wanted { path: folder.to_owned(), no_std: true, ..Wanted::default() };
     Workspace::open(Crates::read(&wanted).unwrap(), program, None, |_, _, _| {}).unwrap()

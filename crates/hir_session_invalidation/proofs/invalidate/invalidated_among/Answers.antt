@@ -17,10 +17,10 @@ loop-key-init c = record {
 pub loop-key-preserved : goal.loop-key-preserved
 loop-key-preserved c =
     let turn = btree_map_turn deref_pair c.loop-key.yielded c.into_iter-key-iterator.result c.loop-key.key-iterator c.next.new.self c.next.result
-    (c.in-Some.key, c.in-Some.ids) c.loop-key.yielded_by c.in-Some.is c.next.ensures.steps keys_total c.args.askers.now (search rules) (search rules) in
+    (c.in-Some.key, c.in-Some.places) c.loop-key.yielded_by c.in-Some.is c.next.ensures.steps keys_total c.args.askers.now (search rules) (search rules) in
     record {
       judging =
-          judging-more _ _ _ c.args.askers.now c.loop-key.key-iterator c.next.new.self c.in-Some.key.now c.in-Some.ids.now (search rules) turn.1 _ _
+          judging-more _ _ _ c.args.askers.now c.loop-key.key-iterator c.next.new.self c.in-Some.key.now c.in-Some.places.now (search rules) turn.1 _ _
           c.loop-key.invariant.judging c.in_ok-judge.ensures.judged;
       changes = c.in_ok-judge.ensures.changes;
     }

@@ -1,7 +1,7 @@
 -- One more place is hit.
 use Rattle.std.proofs.Common.{◌≡◌, ◌∙◌, ap, sym, List, [], ◌∷◌, ◌++◌, append-nil, append_assoc}
 use Rattle.hir_session_state.specs.HirIds.declared.ids.MapId.{MapId}
-use Rattle.hir_session_invalidation.proofs.invalidate.hit.Goals as goal
+use Rattle.hir_session_invalidation.proofs.invalidate.hit_each.Goals as goal
 
 pub loop-id-preserved : goal.loop-id-preserved
 loop-id-preserved c =
