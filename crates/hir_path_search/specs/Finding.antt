@@ -1,45 +1,26 @@
 -- Which path names a definition, and comes before all others that do?
-use Rattle.std.specs.Prelude.{◌≡◌, ◌≤◌, ℕ, Bool, true, false, List, length, is_some, Option, None, Some}
+use Rattle.std.specs.Prelude.{◌≡◌, ◌≤◌, ℕ, Bool, true, false, length, Option, None, Some}
 use Rattle.hir_nameres.specs.HirBase.ModPath.{Path}
 use Rattle.hir_nameres.specs.HirBase.declared.mod_path.PathKind.{PathKind}
 use Rattle.hir_nameres.specs.HirBase.declared.mod_path.PathKind.TheVariants as kinds
 use Rattle.hir_nameres.specs.HirBase.declared.resolve_mode.BuiltinShadowMode.TheVariants as shadow_modes
 use Rattle.hir_nameres.specs.HirIds.declared.ids.ModuleDefId.{ModuleDefId}
-use Rattle.hir_nameres.specs.HirIds.declared.ids.ModuleDefId.TheVariants as definitions
 use Rattle.hir_nameres.specs.HirIds.declared.ids.ModuleId.{ModuleId}
 use Rattle.hir_nameres.specs.HirPerNs.declared.per_ns.Namespace.{Namespace}
-use Rattle.hir_nameres.specs.HirPerNs.declared.per_ns.Namespace.TheVariants as namespaces
 use Rattle.hir_nameres.specs.HirPerNs.declared.per_ns.PerNs.{PerNs}
-use Rattle.hir_nameres.specs.HirPerNs.PerNs.{Item}
 use Rattle.hir_nameres.specs.HirDefMapRules.State.{Local}
 use Rattle.hir_nameres.specs.HirDefMapRules.Overlay.{Maps}
-use Rattle.hir_nameres.specs.HirDefMapRules.Scoping.{Resolution, resolution_of}
-use Rattle.hir_nameres.specs.HirDefMapRules.Scoping.Asking.{by_other}
 use Rattle.hir_path_search.specs.declared.search.PathPrefix.{PathPrefix}
 use Rattle.hir_path_search.specs.declared.search.PathPrefix.TheVariants as prefixes
 use Rattle.hir_path_search.specs.declared.sought.Named.{Named}
-use Rattle.hir_path_search.specs.Judging.{comes_before, judgement_of}
-
--- an item as what a name stands for
-abbrev pub named_by : {D I : Type 0} → (D → ModuleDefId) → Option (Item D I) → Option Named
-named_by def_of None = None
-named_by def_of (Some item) = Some (record { def = def_of item.def; imported = is_some item.import })
-
--- what items are in a namespace
-abbrev pub named_in : Namespace → PerNs → Option Named
-named_in namespaces.Types items = named_by (λ def. def) items.types
-named_in namespaces.Values items = named_by (λ def. def) items.values
-named_in namespaces.Macros items = named_by (λ makro. definitions.MacroId makro) items.macros
-
--- what a path that is asked as a query asks by default is answered
-abbrev pub found_by : Maps → Local → ModuleId → Path → Resolution
-found_by maps local at path = resolution_of maps (by_other local shadow_modes.Other None) at path
+use Rattle.hir_path_search.specs.Judging.{answered, comes_before, judgement_of, named_in, supers_of}
 
 -- all of the path is resolved, and what it names is sought; whether an import brought its last name
 pub record Names (maps : Maps) (local : Local) (at : ModuleId) (is_sought : ModuleDefId → Bool) (ns : Namespace) (path : Path) (imported : Bool) : Type 0 where
-  pub whole : (found_by maps local at path).segment_index ≡ None
+  pub items : PerNs
+  pub whole : answered maps local shadow_modes.Other at path.kind path.segments ≡ Some items
   pub named : Named
-  pub is : named_in ns (found_by maps local at path).resolved_def ≡ Some named
+  pub is : named_in ns items ≡ Some named
   pub sought : is_sought named.def ≡ true
   pub by_import : imported ≡ named.imported
 
@@ -56,9 +37,10 @@ may_begin prefixes.Crate kinds.Crate = true
 may_begin prefixes.Crate kinds.Abs = true
 may_begin prefixes.Crate (kinds.DollarCrate c) = false
 
--- a path is among those that are looked at
+-- a path is among those that are looked at: it begins as it is to, has no more levels of `super` than any path, and no more than so many segments
 pub record IsCandidate (prefix : PathPrefix) (most : ℕ) (path : Path) : Type 0 where
   pub begins : may_begin prefix path.kind ≡ true
+  pub levels : supers_of path.kind ≤ 255
   pub within : length path.segments ≤ most
 
 -- no candidate that names what is sought comes before a path
@@ -74,3 +56,13 @@ pub record IsBest (maps : Maps) (local : Local) (at : ModuleId) (is_sought : Mod
   pub imported : Bool
   pub names : Names maps local at is_sought ns path imported
   pub first : IsFirst maps local at is_sought ns prefix most imported path
+
+-- no candidate names what is sought
+abbrev pub AreAbsent : Maps → Local → ModuleId → (ModuleDefId → Bool) → Namespace → PathPrefix → ℕ → Type 0
+AreAbsent maps local at is_sought ns prefix most =
+    (other : Path) (by_import : Bool) → IsCandidate prefix most other → Names maps local at is_sought ns other by_import → ⊥
+
+-- the best candidate that names what is sought is found, or there is none
+abbrev pub Finds : Maps → Local → ModuleId → (ModuleDefId → Bool) → Namespace → PathPrefix → ℕ → Option Path → Type 0
+Finds maps local at is_sought ns prefix most None = AreAbsent maps local at is_sought ns prefix most
+Finds maps local at is_sought ns prefix most (Some path) = IsBest maps local at is_sought ns prefix most path

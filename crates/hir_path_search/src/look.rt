@@ -1,123 +1,180 @@
 //! Where a path has come to.
+ghost use Rattle.std.specs.Prelude.{◌≡◌, ◌∷◌, [], IfOk, None, option_map};
+ghost use Rattle.hir_nameres.specs.DefMaps.{maps_of};
+ghost use Rattle.hir_path_search.specs.Looks.{behind, behind_all, both, look_at, next_look, next_looks, comes_to, whole_items};
 
-use hir_base::ids::{AdtId, ModuleDefId, ModuleId};
+use hir_base::ids::{AdtId, EnumId, ModuleDefId, ModuleId};
 use hir_base::name::Name;
 use hir_nameres::def_maps::DefMaps;
 use hir_nameres::hir_scope::per_ns::{PerNs, TypesItem};
 use hir_nameres::hir_scope::visibility::Visibility;
+use hir_nameres::nameres::path_resolution::ResolvePathResult;
 use std::alloc::{AllocError, Global};
 
-/// A definition that a path has come to, and the module that asks for what comes after it.
-#[derive(Clone, Copy, PartialEq, Eq, PartialOrd, Ord, Drop)]
+/// What has the names that may come next.
+#[derive(Clone, Copy)]
+pub enum Parent {
+    Module(ModuleId),
+    /// An enum, and who may see the name that led to it.
+    Enum(EnumId, Visibility),
+}
+
+/// Where a path has come to, and the module that asks for what comes after it.
+#[derive(Clone, Copy)]
 pub struct Look {
     pub asks: ModuleId,
-    pub def: ModuleDefId,
+    pub parent: Parent,
 }
 
-impl Look {
-    /// A definition; a module of another crate asks for what comes after it.
-    pub fn at(maps: &DefMaps<'_>, asks: ModuleId, def: ModuleDefId) -> Look {
-        if let ModuleDefId::ModuleId(module) = def {
-            if module.map.krate != asks.map.krate {
-                let entered = maps.nearest_non_block_module(module);
-                return Look {
-                    asks: entered,
-                    def: ModuleDefId::ModuleId(entered),
-                };
-            }
-        }
-        Look { asks, def }
-    }
+/// Where a path comes to by what a name stands for.
+#[derive(Clone, Copy)]
+pub enum Onward {
+    /// Whatever comes after is resolved to nothing.
+    Nowhere,
+    /// Nothing can come after it.
+    Stopped,
+    To(Look),
 }
 
-/// Whether names may come after a definition.
-pub fn leads_on(def: ModuleDefId) -> bool {
-    matches!(
-        def,
-        ModuleDefId::ModuleId(_) | ModuleDefId::AdtId(AdtId::EnumId(_))
-    )
-}
-
-/// What a name stands for behind what a path has come to; None where the path stops before it.
-fn behind(maps: &DefMaps<'_>, look: Look, name: &Name) -> Option<PerNs> {
-    let now = PerNs::types(look.def, Visibility::Public, None);
-    let found = maps.resolve_rest(look.asks, std::slice::from_ref(name), 0, now);
+/// What a path names that is resolved as a whole.
+pub fn whole_items(found: ResolvePathResult) -> Option<PerNs>
+    ensures value { result ≡ whole_items found }
+{
     match found.segment_index {
         Some(_) => None,
         None => Some(found.resolved_def),
     }
 }
 
-/// The same of all that a path has come to.
-pub fn joined_behind(maps: &DefMaps<'_>, looks: &[Look], name: &Name) -> Option<PerNs> {
-    let mut joined = PerNs::none();
-    for look in looks {
-        joined = joined.or(behind(maps, *look, name)?);
-    }
-    Some(joined)
-}
-
-/// One name that leads on.
-#[derive(Drop)]
-pub struct Step {
-    pub name: Name,
-    /// Whether it isn't public.
-    pub private: bool,
-    /// Whether an import brought it.
-    pub imported: bool,
-    /// Where a path has come to behind it.
-    pub looks: Vec<Look>,
-}
-
-impl Step {
-    /// A name that stands for this, where a path has come to these behind it.
-    pub fn to(name: &Name, item: TypesItem, looks: Vec<Look>) -> Result<Step, AllocError> {
-        Ok(Step {
-            name: name.clone()?,
-            private: !item.vis.is_public(),
-            imported: item.import.is_some(),
-            looks,
-        })
+/// What two maps have that both resolve a path as a whole.
+fn both(first: Option<PerNs>, other: Option<PerNs>) -> Option<PerNs>
+    ensures value { result ≡ both first other }
+{
+    match (first, other) {
+        (Some(first), Some(other)) => Some(first.or(other)),
+        _ => None,
     }
 }
 
-/// One more that a path has come to; false where it can't go on from there, nor as a whole.
-pub fn add_look(
-    maps: &DefMaps<'_>,
-    looks: &mut Vec<Look>,
-    asks: ModuleId,
-    types: Option<TypesItem>,
-) -> Result<bool, AllocError> {
+impl Look {
+    /// A module; one of another crate asks itself for what comes after it.
+    pub fn at(maps: &DefMaps<'_>, asks: ModuleId, module: ModuleId) -> Look
+        ensures value { result ≡ look_at (maps_of maps.now) asks «module» }
+    {
+        if module.map.krate == asks.map.krate {
+            return Look {
+                asks,
+                parent: Parent::Module(module),
+            };
+        }
+        let entered = maps.nearest_non_block_module(module);
+        Look {
+            asks: entered,
+            parent: Parent::Module(entered),
+        }
+    }
+
+    /// What has been come to, as items.
+    fn items(self) -> PerNs
+        ensures value { result ≡ items_of self }
+    {
+        match self.parent {
+            Parent::Module(module) => {
+                PerNs::types(ModuleDefId::ModuleId(module), Visibility::Public, None)
+            }
+            Parent::Enum(id, vis) => PerNs::types(ModuleDefId::AdtId(AdtId::EnumId(id)), vis, None),
+        }
+    }
+}
+
+/// Where a path comes to by a type.
+pub fn comes_to(maps: &DefMaps<'_>, asks: ModuleId, types: Option<TypesItem>) -> Onward
+    ensures value { result ≡ comes_to (maps_of maps.now) asks types }
+{
     let Some(item) = types else {
-        return Ok(true);
+        return Onward::Nowhere;
     };
-    if !leads_on(item.def) {
-        return Ok(false);
+    match item.def {
+        ModuleDefId::ModuleId(module) => Onward::To(Look::at(maps, asks, module)),
+        ModuleDefId::AdtId(AdtId::EnumId(id)) => Onward::To(Look {
+            asks,
+            parent: Parent::Enum(id, item.vis),
+        }),
+        _ => Onward::Stopped,
     }
-    let look = Look::at(maps, asks, item.def);
-    if !looks.as_slice().contains(&look) {
-        looks.push(look)?;
-    }
-    Ok(true)
 }
 
-/// Where a path comes to by one more name that others follow; None where none can.
+/// What a name stands for behind what a path has come to; None where the path stops before it.
+fn behind(maps: &DefMaps<'_>, look: Look, name: &Name) -> Option<PerNs>
+    ensures value { result ≡ behind (maps_of maps.now) look (name.now ∷ []) }
+{
+    let names = std::slice::from_ref(name);
+    whole_items(maps.resolve_rest(look.asks, names, 0, look.items()))
+}
+
+/// The same of all that a path has come to.
+pub fn behind_all(maps: &DefMaps<'_>, looks: &[Look], name: &Name) -> Option<PerNs>
+    ensures value { result ≡ behind_all (maps_of maps.now) looks.now (name.now ∷ []) }
+{
+    match looks {
+        [] => Some(PerNs::none()),
+        [look, others @ ..] => both(behind(maps, *look, name), behind_all(maps, others, name)),
+    }
+}
+
+/// Where a path comes to by one more name that others follow.
+fn next_look(maps: &DefMaps<'_>, look: Look, name: &Name) -> Onward
+    ensures value { result ≡ next_look (maps_of maps.now) look name.now }
+{
+    match look.parent {
+        Parent::Module(module) => {
+            if module.map.krate == look.asks.map.krate {
+                comes_to(maps, look.asks, maps.seen_type(look.asks, module, name))
+            } else {
+                let entered = maps.nearest_non_block_module(module);
+                comes_to(maps, entered, maps.seen_type(entered, entered, name))
+            }
+        }
+        Parent::Enum(id, _) => match maps.variant(id, name) {
+            Some(_) => Onward::Nowhere,
+            None => Onward::Stopped,
+        },
+    }
+}
+
+/// What has been come to, and first this.
+pub fn with_look(alloc: Global, first: Onward, others: Option<Vec<Look>>) -> Result<Option<Vec<Look>>, AllocError>
+    ensures value { IfOk result (λ looks. option_map (λ v. v.items) looks ≡ with_look first (option_map (λ v. v.items) others)) }
+{
+    let Some(others) = others else {
+        return Ok(None);
+    };
+    match first {
+        Onward::Stopped => Ok(None),
+        Onward::Nowhere => Ok(Some(others)),
+        Onward::To(look) => {
+            let mut looks = Vec::new(alloc);
+            looks.push(look)?;
+            looks.extend_from_slice(others.as_slice())?;
+            Ok(Some(looks))
+        }
+    }
+}
+
+/// Where a path comes to by one more name that others follow, in all maps; None where none can.
 pub fn next_looks(
     alloc: Global,
     maps: &DefMaps<'_>,
     looks: &[Look],
     name: &Name,
-) -> Result<Option<Vec<Look>>, AllocError> {
-    let mut next = Vec::new(alloc);
-    for look in looks {
-        let Some(items) = behind(maps, *look, name) else {
-            return Ok(None);
-        };
-        if let ModuleDefId::ModuleId(_) = look.def {
-            if !add_look(maps, &mut next, look.asks, items.types)? {
-                return Ok(None);
-            }
+) -> Result<Option<Vec<Look>>, AllocError>
+    ensures value { IfOk result (λ next. option_map (λ v. v.items) next ≡ next_looks (maps_of maps.now) looks.now name.now) }
+{
+    match looks {
+        [] => Ok(Some(Vec::new(alloc))),
+        [look, others @ ..] => {
+            let others = next_looks(alloc, maps, others, name)?;
+            with_look(alloc, next_look(maps, *look, name), others)
         }
     }
-    Ok(Some(next))
 }

@@ -1,58 +1,53 @@
 //! What a search has found out.
+ghost use Rattle.std.specs.Prelude.{◌≡◌, IfOk, IfSome, OnOk};
+ghost use Rattle.hir_path_search.specs.Known.{looks_of, AllEntries};
 
 use crate::ending::Ending;
-use crate::look::{Look, Step};
+use crate::look::{Look, Parent};
+use crate::names::NextNames;
+use hir_base::ids::ModuleId;
 use std::alloc::{AllocError, Global};
 use std::collections::BTreeMap;
 use std::rc::Rc;
 
-/// The best endings, and the names that lead on, from what a path has come to, where they were looked for.
-#[derive(Drop)]
-pub struct Memo {
-    alloc: Global,
-    /// By the number of segments, less one.
-    known: Vec<BTreeMap<Vec<Look>, Option<Ending>>>,
-    steps: BTreeMap<Vec<Look>, Rc<Vec<Step>>>,
+/// A module that a path has come to, and the one that asks for what comes after it.
+#[derive(Clone, Copy, PartialEq, Eq, PartialOrd, Ord)]
+pub struct ModuleLook {
+    pub asks: ModuleId,
+    pub module: ModuleId,
 }
 
-impl Memo {
-    pub fn new(alloc: Global) -> Memo {
-        Memo {
-            alloc,
-            known: Vec::new(alloc),
-            steps: BTreeMap::new(alloc),
-        }
-    }
+/// An ending that is asked for: one of more names than `left`, behind modules.
+#[derive(PartialEq, Eq, PartialOrd, Ord, Drop)]
+pub struct Asked {
+    pub left: usize,
+    pub looks: Vec<ModuleLook>,
+}
 
-    /// The names that lead on, where they are known.
-    pub fn steps(&self, looks: &[Look]) -> Option<&Rc<Vec<Step>>> {
-        self.steps.get(looks)
-    }
+/// What is known behind modules that paths have come to.
+#[derive(Drop)]
+pub struct Memo {
+    /// The names that come next.
+    pub next: BTreeMap<Vec<ModuleLook>, Rc<NextNames>>,
+    /// The best endings.
+    pub best: BTreeMap<Asked, Option<Ending>>,
+}
 
-    /// Keeps the names that lead on.
-    pub fn keep_steps(&mut self, looks: Vec<Look>, steps: Rc<Vec<Step>>) -> Result<(), AllocError> {
-        self.steps.insert(looks, steps)?;
-        Ok(())
+/// What a path has come to, where these are modules all.
+pub fn modules_of(alloc: Global, looks: &[Look]) -> Result<Option<Vec<ModuleLook>>, AllocError>
+    ensures value { IfOk result (λ found. IfSome found (λ modules. looks.now ≡ looks_of modules.items)) }
+{
+    let mut modules = Vec::new(alloc);
+    let mut left = looks;
+    'each: while let [look, others @ ..] = left {
+        let Parent::Module(module) = look.parent else {
+            return Ok(None);
+        };
+        modules.push(ModuleLook {
+            asks: look.asks,
+            module,
+        })?;
+        left = others;
     }
-
-    /// What is known, if anything is.
-    pub fn get(&self, left: usize, looks: &[Look]) -> Option<&Option<Ending>> {
-        self.known.as_slice().get(left)?.get(looks)
-    }
-
-    /// Keeps an ending.
-    pub fn keep(
-        &mut self,
-        left: usize,
-        looks: Vec<Look>,
-        ending: Option<Ending>,
-    ) -> Result<(), AllocError> {
-        for _ in self.known.len()..left.saturating_add(1) {
-            self.known.push(BTreeMap::new(self.alloc))?;
-        }
-        if let Some(known) = self.known.get_mut(left) {
-            known.insert(looks, ending)?;
-        }
-        Ok(())
-    }
+    Ok(Some(modules))
 }

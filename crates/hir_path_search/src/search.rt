@@ -1,21 +1,28 @@
 //! The search, from each start of paths.
+ghost use Rattle.std.specs.Prelude.{◌≡◌, suc, true, IfOk, OnOk};
+ghost use Rattle.hir_nameres.specs.DefMaps.{maps_of};
+ghost use Rattle.hir_path_search.specs.Askers.{AreAskers};
+ghost use Rattle.hir_path_search.specs.Finding.{Finds};
+ghost use Rattle.hir_path_search.specs.Known.{IsKnown};
+ghost use Rattle.hir_path_search.specs.NextNames.{AreNextOf, IsBestEnding};
+ghost use Rattle.hir_path_search.specs.Searching.{is_looked_at, is_rooted, AreStarts, FindsAmong, IsBestOf, IsBestOfKind, IsBestThrough, IsOfKind, IsOfLength, IsOfSupers};
+ghost use Rattle.hir_path_search.specs.declared.search.PathPrefix.TheVariants as prefixes;
 
+use crate::askers::{Asker, askers, query, root_looks};
 use crate::ending::{Ending, better};
-use crate::first_names::{FirstNames, first_names};
-use crate::look::{Look, Step, add_look, joined_behind, leads_on, next_looks};
-use crate::memo::Memo;
-use crate::sought::{Named, Sought, named_in};
-use hir_base::ids::{AdtId, EnumId, ModuleDefId, ModuleId};
+use crate::look::{Look, whole_items};
+use crate::memo::{Asked, Memo, modules_of};
+use crate::names::{NextNames, Stage, Step};
+use crate::sought::Sought;
+use hir_base::ids::ModuleId;
 use hir_base::mod_path::{ModPath, PathKind};
-use hir_base::name::Name;
 use hir_nameres::def_maps::DefMaps;
-use hir_nameres::hir_scope::item_scope::ItemScope;
-use hir_nameres::hir_scope::per_ns::{Namespace, PerNs};
+use hir_nameres::hir_scope::per_ns::Namespace;
 use hir_nameres::nameres::local_def_map::LocalDefMap;
-use hir_nameres::nameres::path_resolution::query::Query;
-use hir_nameres::nameres::path_resolution::{BuiltinShadowMode, ResolveMode};
+use hir_nameres::nameres::path_resolution::BuiltinShadowMode;
 use smallvec::SmallVec;
 use std::alloc::{AllocError, Global};
+use std::collections::BTreeMap;
 use std::rc::Rc;
 
 /// Which starts of paths are looked at.
@@ -33,226 +40,55 @@ pub struct PathSearch<'a, S> {
     pub maps: DefMaps<'a>,
     pub local: &'a LocalDefMap,
     pub at: ModuleId,
+    /// Those that answer the paths that are asked there.
+    pub askers: &'a [Asker],
     pub sought: &'a S,
     pub namespace: Namespace,
 }
 
+/// The names that paths begin with.
+#[derive(Drop)]
+pub struct Starts {
+    /// Those of paths without a root.
+    pub plain: NextNames,
+    /// Those of paths that begin with `::`.
+    pub absolute: NextNames,
+}
+
 impl<S: Sought> PathSearch<'_, S> {
-    /// How paths are asked for.
-    pub fn query(&self) -> Query<'_> {
-        Query {
-            maps: self.maps,
-            local: Some(self.local),
-            mode: ResolveMode::Other,
-            shadow: BuiltinShadowMode::Other,
-            sub_ns: None,
-        }
+    /// The names that come after what a path has come to.
+    fn new_names(&self, alloc: Global, looks: &[Look]) -> Result<NextNames, AllocError>
+        requires askers { AreAskers (maps_of self.now.maps) self.now.at self.now.askers.now }
+        ensures value { IfOk result (AreNextOf (maps_of self.now.maps) (S.is_sought self.now.sought.now) self.now.namespace looks.now) }
+    {
+        let candidates = self.candidates_behind(alloc, looks)?;
+        self.next_names(alloc, Stage::Behind(looks), candidates.as_slice())
     }
 
-    /// What items are in the namespace, where that is sought.
-    pub fn sought_in(&self, alloc: Global, items: PerNs) -> Result<Option<Named>, AllocError> {
-        match named_in(self.namespace, items) {
-            Some(named) => {
-                if self.sought.is(alloc, named.def)? {
-                    Ok(Some(named))
-                } else {
-                    Ok(None)
-                }
-            }
-            None => Ok(None),
-        }
-    }
-
-    /// One last name, where it names what is sought.
-    fn last(
-        &self,
-        alloc: Global,
-        looks: &[Look],
-        name: &Name,
-    ) -> Result<Option<Ending>, AllocError> {
-        let Some(items) = joined_behind(&self.maps, looks, name) else {
-            return Ok(None);
-        };
-        match self.sought_in(alloc, items)? {
-            Some(named) => Ok(Some(Ending::last(alloc, name, named.imported)?)),
-            None => Ok(None),
-        }
-    }
-
-    /// The best last name among those of a scope, and one that is known.
-    fn last_in_scope(
-        &self,
-        alloc: Global,
-        looks: &[Look],
-        scope: &ItemScope,
-        best: Option<Ending>,
-    ) -> Result<Option<Ending>, AllocError> {
-        match self.namespace {
-            Namespace::Types => self.last_type(alloc, looks, scope, best),
-            Namespace::Values => self.last_value(alloc, looks, scope, best),
-            Namespace::Macros => self.last_macro(alloc, looks, scope, best),
-        }
-    }
-
-    /// The best last name among those of a scope that stand for types, and one that is known.
-    fn last_type(
-        &self,
-        alloc: Global,
-        looks: &[Look],
-        scope: &ItemScope,
-        best: Option<Ending>,
-    ) -> Result<Option<Ending>, AllocError> {
-        let mut best = best;
-        for (name, item) in scope.types() {
-            if self.sought.is(alloc, item.def)? {
-                best = better(best, self.last(alloc, looks, name)?);
-            }
-        }
-        Ok(best)
-    }
-
-    /// The same of values.
-    fn last_value(
-        &self,
-        alloc: Global,
-        looks: &[Look],
-        scope: &ItemScope,
-        best: Option<Ending>,
-    ) -> Result<Option<Ending>, AllocError> {
-        let mut best = best;
-        for (name, item) in scope.values() {
-            if self.sought.is(alloc, item.def)? {
-                best = better(best, self.last(alloc, looks, name)?);
-            }
-        }
-        Ok(best)
-    }
-
-    /// The same of macros.
-    fn last_macro(
-        &self,
-        alloc: Global,
-        looks: &[Look],
-        scope: &ItemScope,
-        best: Option<Ending>,
-    ) -> Result<Option<Ending>, AllocError> {
-        let mut best = best;
-        for (name, item) in scope.macros() {
-            if self.sought.is(alloc, ModuleDefId::MacroId(item.def))? {
-                best = better(best, self.last(alloc, looks, name)?);
-            }
-        }
-        Ok(best)
-    }
-
-    /// The best last name among an enum's variants, and one that is known.
-    fn last_in_enum(
-        &self,
-        alloc: Global,
-        looks: &[Look],
-        id: EnumId,
-        best: Option<Ending>,
-    ) -> Result<Option<Ending>, AllocError> {
-        let mut best = best;
-        let Some(map) = self.maps.map(id.loc.container.map) else {
-            return Ok(best);
-        };
-        let Some(variants) = map.enum_variants(id) else {
-            return Ok(best);
-        };
-        for (name, variant) in variants.iter() {
-            let def = ModuleDefId::EnumVariantId(variant.id);
-            if self.sought.is(alloc, def)? {
-                best = better(best, self.last(alloc, looks, name)?);
-            }
-        }
-        Ok(best)
-    }
-
-    /// The names of a module.
-    pub fn scope(&self, module: ModuleId) -> Option<&ItemScope> {
-        self.maps.map(module.map)?.scope(module.index)
-    }
-
-    /// The best last name behind what a path has come to.
-    fn best_last(&self, alloc: Global, looks: &[Look]) -> Result<Option<Ending>, AllocError> {
-        let mut best = None;
-        for look in looks {
-            best = match look.def {
-                ModuleDefId::ModuleId(module) => match self.scope(module) {
-                    Some(scope) => self.last_in_scope(alloc, looks, scope, best)?,
-                    None => best,
-                },
-                ModuleDefId::AdtId(AdtId::EnumId(id)) => {
-                    self.last_in_enum(alloc, looks, id, best)?
-                }
-                _ => best,
-            };
-        }
-        Ok(best)
-    }
-
-    /// A name that others follow, where it leads on.
-    fn step(&self, alloc: Global, looks: &[Look], name: &Name) -> Result<Option<Step>, AllocError> {
-        let Some(items) = joined_behind(&self.maps, looks, name) else {
-            return Ok(None);
-        };
-        let Some(item) = items.types else {
-            return Ok(None);
-        };
-        match next_looks(alloc, &self.maps, looks, name)? {
-            Some(next) => Ok(Some(Step::to(name, item, next)?)),
-            None => Ok(None),
-        }
-    }
-
-    /// The names of a scope that lead on.
-    fn add_steps(
-        &self,
-        alloc: Global,
-        looks: &[Look],
-        scope: &ItemScope,
-        steps: &mut Vec<Step>,
-    ) -> Result<(), AllocError> {
-        for (name, item) in scope.types() {
-            if leads_on(item.def) {
-                if let Some(step) = self.step(alloc, looks, name)? {
-                    steps.push(step)?;
-                }
-            }
-        }
-        Ok(())
-    }
-
-    /// The names that lead on behind what a path has come to, which are looked for once.
-    fn steps(
+    /// The same, kept for the next time where the path has come to modules alone.
+    fn names_behind(
         &self,
         alloc: Global,
         memo: &mut Memo,
         looks: &[Look],
-    ) -> Result<Rc<Vec<Step>>, AllocError> {
-        if let Some(steps) = memo.steps(looks) {
-            return steps.clone();
+    ) -> Result<Rc<NextNames>, AllocError>
+        requires askers { AreAskers (maps_of self.now.maps) self.now.at self.now.askers.now }
+        requires known { IsKnown (maps_of self.now.maps) (S.is_sought self.now.sought.now) self.now.namespace memo.old }
+        ensures value { IfOk result (λ next. AreNextOf (maps_of self.now.maps) (S.is_sought self.now.sought.now) self.now.namespace looks.now next.now) }
+        ensures known { OnOk result (IsKnown (maps_of self.now.maps) (S.is_sought self.now.sought.now) self.now.namespace memo.new) }
+    {
+        let Some(modules) = modules_of(alloc, looks)? else {
+            return Ok(Rc::new(alloc, self.new_names(alloc, looks)?)?);
+        };
+        if let Some(next) = memo.next.get(&modules) {
+            return next.clone();
         }
-        let steps = Rc::new(alloc, self.new_steps(alloc, looks)?)?;
-        memo.keep_steps(Vec::from_slice(alloc, looks)?, steps.clone()?)?;
-        Ok(steps)
+        let next = Rc::new(alloc, self.new_names(alloc, looks)?)?;
+        memo.next.insert(modules, next.clone()?)?;
+        Ok(next)
     }
 
-    /// The names that lead on behind what a path has come to.
-    fn new_steps(&self, alloc: Global, looks: &[Look]) -> Result<Vec<Step>, AllocError> {
-        let mut steps = Vec::new(alloc);
-        for look in looks {
-            if let ModuleDefId::ModuleId(module) = look.def {
-                if let Some(scope) = self.scope(module) {
-                    self.add_steps(alloc, looks, scope, &mut steps)?;
-                }
-            }
-        }
-        Ok(steps)
-    }
-
-    /// The best ending of one more segment than `left`, which begins with one of these steps.
+    /// The best ending of one more name than `left` that begins with one of these steps and others behind it.
     #[cycle(endings)]
     fn best_through(
         &self,
@@ -260,34 +96,66 @@ impl<S: Sought> PathSearch<'_, S> {
         memo: &mut Memo,
         left: usize,
         steps: &[Step],
-    ) -> Result<Option<Ending>, AllocError> {
+    ) -> Result<Option<Ending>, AllocError>
+        requires askers { AreAskers (maps_of self.now.maps) self.now.at self.now.askers.now }
+        requires known { IsKnown (maps_of self.now.maps) (S.is_sought self.now.sought.now) self.now.namespace memo.old }
+        ensures value { IfOk result (IsBestThrough (maps_of self.now.maps) (S.is_sought self.now.sought.now) self.now.namespace (suc (suc left)) steps.now) }
+        ensures known { OnOk result (IsKnown (maps_of self.now.maps) (S.is_sought self.now.sought.now) self.now.namespace memo.new) }
+    {
         let mut best = None;
-        for step in steps {
+        let mut rest = steps;
+        'each: while let [step, others @ ..] = rest {
             if let Some(ending) = self.best(alloc, memo, left, step.looks.as_slice())? {
                 let whole = ending.behind(&step.name, step.private, step.imported)?;
                 best = better(best, Some(whole));
             }
+            rest = others;
         }
         Ok(best)
     }
 
-    /// The best ending of one more segment than `left`, where none is known.
+    /// The best ending of one more name than `left`, of these names that come next.
     #[cycle(endings)]
-    fn best_anew(
+    fn best_of(
+        &self,
+        alloc: Global,
+        memo: &mut Memo,
+        left: usize,
+        next: &NextNames,
+    ) -> Result<Option<Ending>, AllocError>
+        requires askers { AreAskers (maps_of self.now.maps) self.now.at self.now.askers.now }
+        requires known { IsKnown (maps_of self.now.maps) (S.is_sought self.now.sought.now) self.now.namespace memo.old }
+        ensures value { IfOk result (IsBestOf (maps_of self.now.maps) (S.is_sought self.now.sought.now) self.now.namespace (suc left) next.now) }
+        ensures known { OnOk result (IsKnown (maps_of self.now.maps) (S.is_sought self.now.sought.now) self.now.namespace memo.new) }
+    {
+        if left > 0 {
+            return self.best_through(alloc, memo, left - 1, next.steps.as_slice());
+        }
+        match &next.ending {
+            Some(ending) => Ok(Some(ending.clone(alloc)?)),
+            None => Ok(None),
+        }
+    }
+
+    /// The best ending of one more name than `left`, where none is known.
+    #[cycle(endings)]
+    fn new_best(
         &self,
         alloc: Global,
         memo: &mut Memo,
         left: usize,
         looks: &[Look],
-    ) -> Result<Option<Ending>, AllocError> {
-        if left == 0 {
-            return self.best_last(alloc, looks);
-        }
-        let steps = self.steps(alloc, memo, looks)?;
-        self.best_through(alloc, memo, left - 1, steps.as_slice())
+    ) -> Result<Option<Ending>, AllocError>
+        requires askers { AreAskers (maps_of self.now.maps) self.now.at self.now.askers.now }
+        requires known { IsKnown (maps_of self.now.maps) (S.is_sought self.now.sought.now) self.now.namespace memo.old }
+        ensures value { IfOk result (IsBestEnding (maps_of self.now.maps) (S.is_sought self.now.sought.now) self.now.namespace (suc left) looks.now) }
+        ensures known { OnOk result (IsKnown (maps_of self.now.maps) (S.is_sought self.now.sought.now) self.now.namespace memo.new) }
+    {
+        let next = self.names_behind(alloc, memo, looks)?;
+        self.best_of(alloc, memo, left, &next)
     }
 
-    /// The best ending of one more segment than `left`.
+    /// The best ending of one more name than `left`.
     #[cycle(endings)]
     fn best(
         &self,
@@ -295,229 +163,261 @@ impl<S: Sought> PathSearch<'_, S> {
         memo: &mut Memo,
         left: usize,
         looks: &[Look],
-    ) -> Result<Option<Ending>, AllocError> {
-        if let Some(known) = memo.get(left, looks) {
-            return match known {
-                Some(ending) => Ok(Some(ending.clone(alloc)?)),
-                None => Ok(None),
-            };
-        }
-        let found = self.best_anew(alloc, memo, left, looks)?;
-        let kept = match &found {
-            Some(ending) => Some(ending.clone(alloc)?),
-            None => None,
+    ) -> Result<Option<Ending>, AllocError>
+        requires askers { AreAskers (maps_of self.now.maps) self.now.at self.now.askers.now }
+        requires known { IsKnown (maps_of self.now.maps) (S.is_sought self.now.sought.now) self.now.namespace memo.old }
+        ensures value { IfOk result (IsBestEnding (maps_of self.now.maps) (S.is_sought self.now.sought.now) self.now.namespace (suc left) looks.now) }
+        ensures known { OnOk result (IsKnown (maps_of self.now.maps) (S.is_sought self.now.sought.now) self.now.namespace memo.new) }
+    {
+        let Some(modules) = modules_of(alloc, looks)? else {
+            return self.new_best(alloc, memo, left, looks);
         };
-        memo.keep(left, Vec::from_slice(alloc, looks)?, kept)?;
+        let asked = Asked {
+            left,
+            looks: modules,
+        };
+        if let Some(known) = memo.best.get(&asked) {
+            return same_ending(alloc, known);
+        }
+        let found = self.new_best(alloc, memo, left, looks)?;
+        let kept = same_ending(alloc, &found)?;
+        memo.best.insert(asked, kept)?;
         Ok(found)
     }
-
-    /// The modules whose maps count for a path that is asked here: the module, and while one is a block's root its holder.
-    pub fn askers(&self, alloc: Global) -> Result<Vec<ModuleId>, AllocError> {
-        let mut askers = Vec::new(alloc);
-        askers.push(self.at)?;
-        let mut at = self.at;
-        'out: while is_block_root(at) {
-            match self.maps.holder_of(at) {
-                Some(holder) => {
-                    askers.push(holder)?;
-                    at = holder;
-                }
-                None => return Ok(askers),
-            }
-        }
-        Ok(askers)
-    }
-
-    /// The module at which a path of this kind starts that has a root, where it is asked from a module, and who asks.
-    fn root(&self, asker: ModuleId, kind: PathKind) -> Option<Look> {
-        match kind {
-            PathKind::Crate => {
-                let root = ModuleId::root(hir_base::ids::MapId::of_crate(asker.map.krate));
-                Some(Look::at(&self.maps, asker, ModuleDefId::ModuleId(root)))
-            }
-            PathKind::Super(levels) => {
-                let from = self.maps.nearest_non_block_module(asker);
-                let module = self.maps.climb(levels, from)?;
-                let asks = if module.map.block == asker.map.block {
-                    asker
-                } else {
-                    module
-                };
-                Some(Look::at(&self.maps, asks, ModuleDefId::ModuleId(module)))
-            }
-            PathKind::Plain | PathKind::Abs | PathKind::DollarCrate(_) => None,
-        }
-    }
-
-    /// Where a path of this kind starts that has a root.
-    fn roots(
-        &self,
-        alloc: Global,
-        askers: &[ModuleId],
-        kind: PathKind,
-    ) -> Result<Vec<Look>, AllocError> {
-        let mut roots = Vec::new(alloc);
-        for asker in askers {
-            if let Some(look) = self.root(*asker, kind) {
-                if !roots.as_slice().contains(&look) {
-                    roots.push(look)?;
-                }
-            }
-        }
-        Ok(roots)
-    }
 }
 
-/// Whether a module is the root of a block's map.
-pub fn is_block_root(at: ModuleId) -> bool {
-    at.map.block.is_some() && at.index == 0
-}
-
-/// A path of its kind and its last segments.
-fn path_of(alloc: Global, kind: PathKind, ending: Ending) -> Result<ModPath, AllocError> {
-    let mut segments = SmallVec::new(alloc);
-    for name in ending.names.as_slice() {
-        segments.push(name.clone()?)?;
+/// The same ending.
+fn same_ending(alloc: Global, ending: &Option<Ending>) -> Result<Option<Ending>, AllocError>
+    ensures value { IfOk result (λ same. same ≡ ending.now) }
+{
+    match ending {
+        Some(ending) => Ok(Some(ending.clone(alloc)?)),
+        None => Ok(None),
     }
-    Ok(ModPath::from_segments(kind, segments))
-}
-
-/// A start of paths.
-#[derive(Drop)]
-enum Start {
-    /// A module with nothing before it, or several in a block.
-    Roots(PathKind, Vec<Look>),
-    /// A first name.
-    Names(PathKind, FirstNames),
 }
 
 impl<S: Sought> PathSearch<'_, S> {
-    /// The best path of so many segments from a start.
-    fn best_from(
-        &self,
-        alloc: Global,
-        memo: &mut Memo,
-        start: &Start,
-        segments: usize,
-    ) -> Result<Option<ModPath>, AllocError> {
-        let (kind, ending) = match start {
-            Start::Roots(kind, looks) => {
-                if segments == 0 {
-                    return self.root_alone(alloc, *kind, looks.as_slice());
-                }
-                (
-                    *kind,
-                    self.best(alloc, memo, segments - 1, looks.as_slice())?,
-                )
-            }
-            Start::Names(kind, first) => {
-                (*kind, self.best_of_names(alloc, memo, first, segments)?)
-            }
+    /// A path without names, where it names what is sought.
+    fn alone(&self, alloc: Global, kind: PathKind) -> Result<Option<Ending>, AllocError>
+        ensures value { IfOk result (IsBestOfKind (maps_of self.now.maps) self.now.local.now self.now.at (S.is_sought self.now.sought.now) self.now.namespace kind 0) }
+    {
+        let query = query(&self.maps, self.local, BuiltinShadowMode::Other);
+        let Some(items) = whole_items(query.resolve(self.at, kind, &[])) else {
+            return Ok(None);
         };
-        match ending {
-            Some(ending) => Ok(Some(path_of(alloc, kind, ending)?)),
+        match self.sought_in(alloc, items)? {
+            Some(_) => Ok(Some(Ending::nothing(alloc))),
             None => Ok(None),
         }
     }
 
-    /// The best ending of so many segments that begins with one of these names.
-    fn best_of_names(
+    /// The best names of so many behind a root.
+    fn best_behind_root(
         &self,
         alloc: Global,
         memo: &mut Memo,
-        first: &FirstNames,
-        segments: usize,
-    ) -> Result<Option<Ending>, AllocError> {
-        if segments >= 2 {
-            return self.best_through(alloc, memo, segments - 2, first.steps.as_slice());
-        }
-        if segments == 0 {
-            return Ok(None);
-        }
-        match &first.ending {
-            Some(ending) => Ok(Some(ending.clone(alloc)?)),
-            None => Ok(None),
-        }
-    }
-
-    /// A root by itself, where it is what is sought.
-    fn root_alone(
-        &self,
-        alloc: Global,
         kind: PathKind,
-        looks: &[Look],
-    ) -> Result<Option<ModPath>, AllocError> {
-        if !matches!(self.namespace, Namespace::Types) {
-            return Ok(None);
-        }
-        match looks.first() {
-            Some(look) => {
-                if self.sought.is(alloc, look.def)? {
-                    Ok(Some(ModPath::from_segments(kind, SmallVec::new(alloc))))
-                } else {
-                    Ok(None)
-                }
-            }
+        left: usize,
+    ) -> Result<Option<Ending>, AllocError>
+        requires askers { AreAskers (maps_of self.now.maps) self.now.at self.now.askers.now }
+        requires known { IsKnown (maps_of self.now.maps) (S.is_sought self.now.sought.now) self.now.namespace memo.old }
+        requires rooted { is_rooted kind ≡ true }
+        ensures value { IfOk result (IsBestOfKind (maps_of self.now.maps) self.now.local.now self.now.at (S.is_sought self.now.sought.now) self.now.namespace kind (suc left)) }
+        ensures known { OnOk result (IsKnown (maps_of self.now.maps) (S.is_sought self.now.sought.now) self.now.namespace memo.new) }
+    {
+        match root_looks(alloc, &self.maps, kind, self.askers)? {
+            Some(looks) => self.best(alloc, memo, left, looks.as_slice()),
             None => Ok(None),
         }
     }
 
-    /// The starts of paths, in order.
-    fn starts(&self, alloc: Global, prefix: PathPrefix) -> Result<Vec<Start>, AllocError> {
-        let askers = self.askers(alloc)?;
-        let askers = askers.as_slice();
-        let mut starts = Vec::new(alloc);
-        if let PathPrefix::Plain = prefix {
-            let first = first_names(alloc, self, askers, PathKind::Plain)?;
-            starts.push(Start::Names(PathKind::Plain, first))?;
-        }
-        let roots = self.roots(alloc, askers, PathKind::Crate)?;
-        starts.push(Start::Roots(PathKind::Crate, roots))?;
-        if let PathPrefix::Plain = prefix {
-            let roots = self.roots(alloc, askers, PathKind::SELF)?;
-            starts.push(Start::Roots(PathKind::SELF, roots))?;
-        }
-        let first = first_names(alloc, self, askers, PathKind::Abs)?;
-        starts.push(Start::Names(PathKind::Abs, first))?;
-        if let PathPrefix::Plain = prefix {
-            self.add_supers(alloc, askers, &mut starts)?;
-        }
-        Ok(starts)
-    }
-
-    /// The starts with `super`, by how many levels.
-    fn add_supers(
+    /// The best of the paths of a kind with so many names.
+    fn best_of_kind(
         &self,
         alloc: Global,
-        askers: &[ModuleId],
-        starts: &mut Vec<Start>,
-    ) -> Result<(), AllocError> {
+        memo: &mut Memo,
+        starts: &Starts,
+        kind: PathKind,
+        count: usize,
+    ) -> Result<Option<Ending>, AllocError>
+        requires askers { AreAskers (maps_of self.now.maps) self.now.at self.now.askers.now }
+        requires known { IsKnown (maps_of self.now.maps) (S.is_sought self.now.sought.now) self.now.namespace memo.old }
+        requires starts { AreStarts (maps_of self.now.maps) self.now.local.now self.now.at (S.is_sought self.now.sought.now) self.now.namespace starts.now }
+        requires kind { is_looked_at kind ≡ true }
+        ensures value { IfOk result (IsBestOfKind (maps_of self.now.maps) self.now.local.now self.now.at (S.is_sought self.now.sought.now) self.now.namespace kind count) }
+        ensures known { OnOk result (IsKnown (maps_of self.now.maps) (S.is_sought self.now.sought.now) self.now.namespace memo.new) }
+    {
+        if count == 0 {
+            return self.alone(alloc, kind);
+        }
+        match kind {
+            PathKind::Plain => self.best_of(alloc, memo, count - 1, &starts.plain),
+            PathKind::Abs => self.best_of(alloc, memo, count - 1, &starts.absolute),
+            _ => self.best_behind_root(alloc, memo, kind, count - 1),
+        }
+    }
+
+    /// The same as a path.
+    fn path_of_kind(
+        &self,
+        alloc: Global,
+        memo: &mut Memo,
+        starts: &Starts,
+        kind: PathKind,
+        count: usize,
+    ) -> Result<Option<ModPath>, AllocError>
+        requires askers { AreAskers (maps_of self.now.maps) self.now.at self.now.askers.now }
+        requires known { IsKnown (maps_of self.now.maps) (S.is_sought self.now.sought.now) self.now.namespace memo.old }
+        requires starts { AreStarts (maps_of self.now.maps) self.now.local.now self.now.at (S.is_sought self.now.sought.now) self.now.namespace starts.now }
+        requires kind { is_looked_at kind ≡ true }
+        ensures value { IfOk result (FindsAmong (maps_of self.now.maps) self.now.local.now self.now.at (S.is_sought self.now.sought.now) self.now.namespace (IsOfKind kind count)) }
+        ensures known { OnOk result (IsKnown (maps_of self.now.maps) (S.is_sought self.now.sought.now) self.now.namespace memo.new) }
+    {
+        match self.best_of_kind(alloc, memo, starts, kind, count)? {
+            Some(ending) => Ok(Some(path_of(alloc, kind, &ending)?)),
+            None => Ok(None),
+        }
+    }
+
+    /// The best path with so many names that begins with so many levels of `super`, or the next.
+    fn path_of_supers(
+        &self,
+        alloc: Global,
+        memo: &mut Memo,
+        starts: &Starts,
+        count: usize,
+    ) -> Result<Option<ModPath>, AllocError>
+        requires askers { AreAskers (maps_of self.now.maps) self.now.at self.now.askers.now }
+        requires known { IsKnown (maps_of self.now.maps) (S.is_sought self.now.sought.now) self.now.namespace memo.old }
+        requires starts { AreStarts (maps_of self.now.maps) self.now.local.now self.now.at (S.is_sought self.now.sought.now) self.now.namespace starts.now }
+        ensures value { IfOk result (FindsAmong (maps_of self.now.maps) self.now.local.now self.now.at (S.is_sought self.now.sought.now) self.now.namespace (IsOfSupers count)) }
+        ensures known { OnOk result (IsKnown (maps_of self.now.maps) (S.is_sought self.now.sought.now) self.now.namespace memo.new) }
+    {
         for levels in 1..=u8::MAX {
             let kind = PathKind::Super(levels);
-            let roots = self.roots(alloc, askers, kind)?;
-            if roots.is_empty() {
-                return Ok(());
-            }
-            starts.push(Start::Roots(kind, roots))?;
-        }
-        Ok(())
-    }
-
-    /// The best path of so many segments.
-    fn best_of_starts(
-        &self,
-        alloc: Global,
-        memo: &mut Memo,
-        starts: &[Start],
-        segments: usize,
-    ) -> Result<Option<ModPath>, AllocError> {
-        for start in starts {
-            if let Some(path) = self.best_from(alloc, memo, start, segments)? {
+            if let Some(path) = self.path_of_kind(alloc, memo, starts, kind, count)? {
                 return Ok(Some(path));
             }
         }
         Ok(None)
     }
+
+    /// The best path with so many names that begins with `crate` or `::`.
+    fn rooted_path(
+        &self,
+        alloc: Global,
+        memo: &mut Memo,
+        starts: &Starts,
+        count: usize,
+    ) -> Result<Option<ModPath>, AllocError>
+        requires askers { AreAskers (maps_of self.now.maps) self.now.at self.now.askers.now }
+        requires known { IsKnown (maps_of self.now.maps) (S.is_sought self.now.sought.now) self.now.namespace memo.old }
+        requires starts { AreStarts (maps_of self.now.maps) self.now.local.now self.now.at (S.is_sought self.now.sought.now) self.now.namespace starts.now }
+        ensures value { IfOk result (FindsAmong (maps_of self.now.maps) self.now.local.now self.now.at (S.is_sought self.now.sought.now) self.now.namespace (IsOfLength prefixes.Crate count)) }
+        ensures known { OnOk result (IsKnown (maps_of self.now.maps) (S.is_sought self.now.sought.now) self.now.namespace memo.new) }
+    {
+        if let Some(path) = self.path_of_kind(alloc, memo, starts, PathKind::Crate, count)? {
+            return Ok(Some(path));
+        }
+        self.path_of_kind(alloc, memo, starts, PathKind::Abs, count)
+    }
+
+    /// The best path with so many names.
+    fn any_path(
+        &self,
+        alloc: Global,
+        memo: &mut Memo,
+        starts: &Starts,
+        count: usize,
+    ) -> Result<Option<ModPath>, AllocError>
+        requires askers { AreAskers (maps_of self.now.maps) self.now.at self.now.askers.now }
+        requires known { IsKnown (maps_of self.now.maps) (S.is_sought self.now.sought.now) self.now.namespace memo.old }
+        requires starts { AreStarts (maps_of self.now.maps) self.now.local.now self.now.at (S.is_sought self.now.sought.now) self.now.namespace starts.now }
+        ensures value { IfOk result (FindsAmong (maps_of self.now.maps) self.now.local.now self.now.at (S.is_sought self.now.sought.now) self.now.namespace (IsOfLength prefixes.Plain count)) }
+        ensures known { OnOk result (IsKnown (maps_of self.now.maps) (S.is_sought self.now.sought.now) self.now.namespace memo.new) }
+    {
+        if let Some(path) = self.path_of_kind(alloc, memo, starts, PathKind::Plain, count)? {
+            return Ok(Some(path));
+        }
+        if let Some(path) = self.path_of_kind(alloc, memo, starts, PathKind::Crate, count)? {
+            return Ok(Some(path));
+        }
+        if let Some(path) = self.path_of_kind(alloc, memo, starts, PathKind::SELF, count)? {
+            return Ok(Some(path));
+        }
+        if let Some(path) = self.path_of_kind(alloc, memo, starts, PathKind::Abs, count)? {
+            return Ok(Some(path));
+        }
+        self.path_of_supers(alloc, memo, starts, count)
+    }
+
+    /// The best path with so many names that begins as it is to.
+    fn path_of_length(
+        &self,
+        alloc: Global,
+        memo: &mut Memo,
+        starts: &Starts,
+        prefix: PathPrefix,
+        count: usize,
+    ) -> Result<Option<ModPath>, AllocError>
+        requires askers { AreAskers (maps_of self.now.maps) self.now.at self.now.askers.now }
+        requires known { IsKnown (maps_of self.now.maps) (S.is_sought self.now.sought.now) self.now.namespace memo.old }
+        requires starts { AreStarts (maps_of self.now.maps) self.now.local.now self.now.at (S.is_sought self.now.sought.now) self.now.namespace starts.now }
+        ensures value { IfOk result (FindsAmong (maps_of self.now.maps) self.now.local.now self.now.at (S.is_sought self.now.sought.now) self.now.namespace (IsOfLength prefix count)) }
+        ensures known { OnOk result (IsKnown (maps_of self.now.maps) (S.is_sought self.now.sought.now) self.now.namespace memo.new) }
+    {
+        match prefix {
+            PathPrefix::Plain => self.any_path(alloc, memo, starts, count),
+            PathPrefix::Crate => self.rooted_path(alloc, memo, starts, count),
+        }
+    }
+
+    /// The names that paths begin with.
+    fn starts(&self, alloc: Global) -> Result<Starts, AllocError>
+        requires askers { AreAskers (maps_of self.now.maps) self.now.at self.now.askers.now }
+        ensures value { IfOk result (AreStarts (maps_of self.now.maps) self.now.local.now self.now.at (S.is_sought self.now.sought.now) self.now.namespace) }
+    {
+        let plain = self.plain_candidates(alloc)?;
+        let absolute = self.absolute_candidates(alloc)?;
+        Ok(Starts {
+            plain: self.next_names(alloc, Stage::Start(PathKind::Plain), plain.as_slice())?,
+            absolute: self.next_names(alloc, Stage::Start(PathKind::Abs), absolute.as_slice())?,
+        })
+    }
+
+    /// The best path of at most so many names.
+    fn find(
+        &self,
+        alloc: Global,
+        prefix: PathPrefix,
+        most: usize,
+    ) -> Result<Option<ModPath>, AllocError>
+        requires askers { AreAskers (maps_of self.now.maps) self.now.at self.now.askers.now }
+        ensures value { IfOk result (Finds (maps_of self.now.maps) self.now.local.now self.now.at (S.is_sought self.now.sought.now) self.now.namespace prefix most) }
+    {
+        let starts = self.starts(alloc)?;
+        let mut memo = Memo {
+            next: BTreeMap::new(alloc),
+            best: BTreeMap::new(alloc),
+        };
+        for count in 0..=most {
+            if let Some(path) = self.path_of_length(alloc, &mut memo, &starts, prefix, count)? {
+                return Ok(Some(path));
+            }
+        }
+        Ok(None)
+    }
+}
+
+/// A path of its kind and its names.
+fn path_of(alloc: Global, kind: PathKind, ending: &Ending) -> Result<ModPath, AllocError>
+    ensures value { IfOk result (λ path. path ≡ record { kind = kind; segments = ending.now.names }) }
+{
+    let mut segments = SmallVec::new(alloc);
+    for name in ending.names() {
+        segments.push(name.clone()?)?;
+    }
+    Ok(ModPath::from_segments(kind, segments))
 }
 
 /// The best path that names what is sought in a namespace, asked from a module: one of at most so many segments.
@@ -530,20 +430,17 @@ pub fn find_path<S: Sought>(
     namespace: Namespace,
     prefix: PathPrefix,
     most: usize,
-) -> Result<Option<ModPath>, AllocError> {
+) -> Result<Option<ModPath>, AllocError>
+    ensures finds { IfOk result (Finds (maps_of maps.now) local.now at (S.is_sought sought.now) namespace prefix most) }
+{
+    let askers = askers(alloc, maps, at)?;
     let search = PathSearch {
         maps: *maps,
         local,
         at,
+        askers: askers.as_slice(),
         sought,
         namespace,
     };
-    let starts = search.starts(alloc, prefix)?;
-    let mut memo = Memo::new(alloc);
-    for segments in 0..=most {
-        if let Some(path) = search.best_of_starts(alloc, &mut memo, starts.as_slice(), segments)? {
-            return Ok(Some(path));
-        }
-    }
-    Ok(None)
+    search.find(alloc, prefix, most)
 }
