@@ -1,0 +1,5 @@
+pub mod Orders
+pub mod Onwards
+pub mod Beginnings
+pub mod Through
+pub mod Gathering

@@ -23,5 +23,5 @@ AllEntries Is (e ∷ es) = Is e.0 e.1 × AllEntries Is es
 
 -- what is kept is so
 pub record IsKnown (maps : Maps) (is_sought : ModuleDefId → Bool) (ns : Namespace) (memo : Memo) : Type 0 where
-  pub next : AllEntries (λ keys next. AreNextOf maps is_sought ns (looks_of keys.items) next.now) memo.next.entries
+  pub next : AllEntries (λ keys next. AreNextOf maps is_sought ns (looks_of keys.items) next.value) memo.next.entries
   pub best : AllEntries (λ asked best. IsBestEnding maps is_sought ns (suc asked.left) (looks_of asked.looks.items) best) memo.best.entries

@@ -1,5 +1,5 @@
 //! The last segments of a path, and which are better.
-ghost use Rattle.std.specs.Prelude.{◌≡◌, IfOk};
+ghost use Rattle.std.specs.Prelude.{◌≡◌, [], IfOk};
 ghost use Rattle.hir_path_search.specs.Endings.{after_name, better_of, last_name, precedes};
 
 use hir_base::name::Name;

@@ -1,7 +1,8 @@
 //! Where a path has come to.
 ghost use Rattle.std.specs.Prelude.{◌≡◌, ◌∷◌, [], IfOk, None, option_map};
 ghost use Rattle.hir_nameres.specs.DefMaps.{maps_of};
-ghost use Rattle.hir_path_search.specs.Looks.{behind, behind_all, both, look_at, next_look, next_looks, comes_to, whole_items};
+ghost use Rattle.hir_path_search.specs.Judging.{whole_items};
+ghost use Rattle.hir_path_search.specs.Looks.{behind, behind_all, both, comes_to, look_at, next_look, next_looks, parent_items, with_look};
 
 use hir_base::ids::{AdtId, EnumId, ModuleDefId, ModuleId};
 use hir_base::name::Name;
@@ -76,7 +77,7 @@ impl Look {
 
     /// What has been come to, as items.
     fn items(self) -> PerNs
-        ensures value { result ≡ items_of self }
+        ensures value { result ≡ parent_items self.parent }
     {
         match self.parent {
             Parent::Module(module) => {

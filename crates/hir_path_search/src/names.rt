@@ -95,7 +95,7 @@ impl<S: Sought> PathSearch<'_, S> {
 
     /// What a name stands for that comes next, and is the last.
     fn whole_at(&self, stage: Stage<'_>, name: &Name) -> Option<PerNs>
-        ensures value { result ≡ whole_at (maps_of self.now.maps) self.now.local.now self.now.at stage (name.now ∷ []) }
+        ensures value { result ≡ whole_at (maps_of self.now.maps) self.now.local.now self.now.at stage.entry (name.now ∷ []) }
     {
         match stage {
             Stage::Start(kind) => {
@@ -108,7 +108,7 @@ impl<S: Sought> PathSearch<'_, S> {
 
     /// What a name stands for that comes next, and that others follow.
     fn ways_at(&self, stage: Stage<'_>, name: &Name) -> Option<PerNs>
-        ensures value { result ≡ ways_at (maps_of self.now.maps) self.now.local.now self.now.at stage (name.now ∷ []) }
+        ensures value { result ≡ ways_at (maps_of self.now.maps) self.now.local.now self.now.at stage.entry (name.now ∷ []) }
     {
         match stage {
             Stage::Start(kind) => {
@@ -127,7 +127,7 @@ impl<S: Sought> PathSearch<'_, S> {
         name: &Name,
     ) -> Result<Option<Vec<Look>>, AllocError>
         ensures value { IfOk result (λ next. option_map (λ v. v.items) next
-            ≡ next_at (maps_of self.now.maps) self.now.local.now self.now.askers.now stage name.now) }
+            ≡ next_at (maps_of self.now.maps) self.now.local.now self.now.askers.now stage.entry name.now) }
     {
         match stage {
             Stage::Start(kind) => {
@@ -145,7 +145,7 @@ impl<S: Sought> PathSearch<'_, S> {
         name: &Name,
         best: Option<Ending>,
     ) -> Result<Option<Ending>, AllocError>
-        ensures value { IfOk result (MeetsEnding (whole_at (maps_of self.now.maps) self.now.local.now self.now.at stage) (S.is_sought self.now.sought.now)
+        ensures value { IfOk result (MeetsEnding (whole_at (maps_of self.now.maps) self.now.local.now self.now.at stage.entry) (S.is_sought self.now.sought.now)
             self.now.namespace name.now best) }
     {
         let Some(items) = self.whole_at(stage, name) else {
@@ -165,8 +165,8 @@ impl<S: Sought> PathSearch<'_, S> {
         name: &Name,
         steps: &mut Vec<Step>,
     ) -> Result<(), AllocError>
-        ensures value { OnOk result (MeetsStep (ways_at (maps_of self.now.maps) self.now.local.now self.now.at stage)
-            (next_at (maps_of self.now.maps) self.now.local.now self.now.askers.now stage) name.now steps.old.items steps.new.items) }
+        ensures value { OnOk result (MeetsStep (ways_at (maps_of self.now.maps) self.now.local.now self.now.at stage.entry)
+            (next_at (maps_of self.now.maps) self.now.local.now self.now.askers.now stage.entry) name.now steps.old.items steps.new.items) }
     {
         let Some(looks) = self.next_at(alloc, stage, name)? else {
             return Ok(());
@@ -193,9 +193,9 @@ impl<S: Sought> PathSearch<'_, S> {
     ) -> Result<NextNames, AllocError>
         requires askers { AreAskers (maps_of self.now.maps) self.now.at self.now.askers.now }
         requires candidates { AreCandidates (whole_at (maps_of self.now.maps) self.now.local.now self.now.at stage)
-            (ways_at (maps_of self.now.maps) self.now.local.now self.now.at stage) (S.is_sought self.now.sought.now) self.now.namespace candidates.now }
-        ensures value { IfOk result (AreNext (maps_of self.now.maps) (whole_at (maps_of self.now.maps) self.now.local.now self.now.at stage)
-            (ways_at (maps_of self.now.maps) self.now.local.now self.now.at stage) (S.is_sought self.now.sought.now) self.now.namespace) }
+            (ways_at (maps_of self.now.maps) self.now.local.now self.now.at stage.entry) (S.is_sought self.now.sought.now) self.now.namespace candidates.now }
+        ensures value { IfOk result (AreNext (maps_of self.now.maps) (whole_at (maps_of self.now.maps) self.now.local.now self.now.at stage.entry)
+            (ways_at (maps_of self.now.maps) self.now.local.now self.now.at stage.entry) (S.is_sought self.now.sought.now) self.now.namespace) }
     {
         let mut ending = None;
         let mut steps = Vec::new(alloc);

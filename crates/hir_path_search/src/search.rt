@@ -74,7 +74,7 @@ impl<S: Sought> PathSearch<'_, S> {
     ) -> Result<Rc<NextNames>, AllocError>
         requires askers { AreAskers (maps_of self.now.maps) self.now.at self.now.askers.now }
         requires known { IsKnown (maps_of self.now.maps) (S.is_sought self.now.sought.now) self.now.namespace memo.old }
-        ensures value { IfOk result (λ next. AreNextOf (maps_of self.now.maps) (S.is_sought self.now.sought.now) self.now.namespace looks.now next.now) }
+        ensures value { IfOk result (λ next. AreNextOf (maps_of self.now.maps) (S.is_sought self.now.sought.now) self.now.namespace looks.now next.value) }
         ensures known { OnOk result (IsKnown (maps_of self.now.maps) (S.is_sought self.now.sought.now) self.now.namespace memo.new) }
     {
         let Some(modules) = modules_of(alloc, looks)? else {

@@ -6,6 +6,6 @@ use Rattle.serde_json.specs.View.{members_view}
 use Rattle.serde_json.specs.declared.value.Value.{Value}
 use Rattle.hir_wire.specs.Definitions.{field_count}
 
-pub field_count-length : (entries : List (String Global × Value)) → field_count (members_view entries) ≡ length entries
-field_count-length [] = refl
-field_count-length (entry ∷ entries) = ap suc (field_count-length entries)
+pub field_count_length : (entries : List (String Global × Value)) → field_count (members_view entries) ≡ length entries
+field_count_length [] = refl
+field_count_length (entry ∷ entries) = ap suc (field_count_length entries)

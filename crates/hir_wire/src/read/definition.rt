@@ -64,7 +64,7 @@ impl Word for DefinitionKind {
 }
 
 /// How many fields an object has.
-#[tactic(auto, using(crate::proofs::FieldCount::field_count-length))]
+#[tactic(auto, using(crate::proofs::FieldCount::field_count_length))]
 fn field_count(members: &Map<String, Value>) -> usize
     ensures value { result ≡ field_count (members_view members.now.entries) }
 {
