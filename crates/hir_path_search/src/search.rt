@@ -293,11 +293,13 @@ impl<S: Sought> PathSearch<'_, S> {
         ensures value { IfOk result (FindsAmong (maps_of self.now.maps) self.now.local.now self.now.at (S.is_sought self.now.sought.now) self.now.namespace (IsOfSupers count)) }
         ensures known { OnOk result (IsKnown (maps_of self.now.maps) (S.is_sought self.now.sought.now) self.now.namespace memo.new) }
     {
-        for levels in 1..=u8::MAX {
-            let kind = PathKind::Super(levels);
+        let mut levels: u8 = 0;
+        'up: while levels < u8::MAX {
+            let kind = PathKind::Super(levels + 1);
             if let Some(path) = self.path_of_kind(alloc, memo, starts, kind, count)? {
                 return Ok(Some(path));
             }
+            levels += 1;
         }
         Ok(None)
     }
@@ -400,12 +402,14 @@ impl<S: Sought> PathSearch<'_, S> {
             next: BTreeMap::new(alloc),
             best: BTreeMap::new(alloc),
         };
-        for count in 0..=most {
+        let mut count = 0;
+        'longer: while count < most {
             if let Some(path) = self.path_of_length(alloc, &mut memo, &starts, prefix, count)? {
                 return Ok(Some(path));
             }
+            count += 1;
         }
-        Ok(None)
+        self.path_of_length(alloc, &mut memo, &starts, prefix, most)
     }
 }
 

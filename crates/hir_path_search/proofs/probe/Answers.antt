@@ -1,6 +1,8 @@
 use Rattle.std.proofs.Common.{refl}
-use Rattle.hir_path_search.proofs.Through.{ends-after, best-through}
 use Rattle.hir_path_search.proofs.Gathering.{met-all, met-more}
+use Rattle.hir_path_search.proofs.BestPaths.{finds-none}
+use Rattle.hir_path_search.proofs.Listed.{among-textual}
+use Rattle.hir_path_search.proofs.Hits.{adding-all}
 use Rattle.hir_path_search.proofs.probe.Goals as goal
 
 pub returns : goal.returns
