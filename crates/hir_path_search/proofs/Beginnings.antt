@@ -21,20 +21,12 @@ use Rattle.hir_nameres.specs.HirDefMapRules.declared.path_result.ResolvePathResu
 use Rattle.hir_path_search.specs.declared.askers.Asker.{Asker}
 use Rattle.hir_path_search.specs.declared.askers.Asker.TheVariants as asker
 use Rattle.hir_path_search.specs.declared.look.Look.{Look}
-use Rattle.hir_path_search.specs.Askers.{AreAskers, absolute_items, answered_from, asked_of, asked_of_all, asks_on, first_look, first_looks, plain_items, root_look, root_looks, super_look}
+use Rattle.hir_path_search.specs.Askers.{AreAskers, absolute_items, answered_from, asked_of, asked_of_all, asks_on, first_look, first_looks, is_named_first, plain_items, root_look, root_looks, super_look}
 use Rattle.hir_path_search.specs.Judging.{answered, whole_items}
 use Rattle.hir_path_search.specs.Looks.{both, comes_to, look_at}
 use Rattle.hir_path_search.specs.declared.look.Onward.TheVariants.{To}
 use Rattle.hir_path_search.specs.Searching.{is_rooted}
 use Rattle.hir_path_search.proofs.Onwards.{answer_after, answered-with_look, whole-onward}
-
--- whether paths of a kind begin with a name
-abbrev pub is_named_first : PathKind → Bool
-is_named_first kinds.Plain = true
-is_named_first (kinds.Super n) = false
-is_named_first kinds.Crate = false
-is_named_first kinds.Abs = true
-is_named_first (kinds.DollarCrate c) = false
 
 -- ---- a first name
 

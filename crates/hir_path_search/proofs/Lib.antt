@@ -6,3 +6,5 @@ pub mod Gathering
 pub mod BestPaths
 pub mod Listed
 pub mod Hits
+pub mod Covered
+pub mod Starting

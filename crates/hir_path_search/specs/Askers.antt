@@ -1,5 +1,5 @@
 -- Which maps answer a path, and to what does its beginning lead in each?
-use Rattle.std.specs.Prelude.{◌≡◌, ℕ, List, [], ◌∷◌, Option, None, Some, cond}
+use Rattle.std.specs.Prelude.{◌≡◌, ℕ, Bool, true, false, List, [], ◌∷◌, Option, None, Some, cond}
 use Rattle.hir_nameres.specs.HirBase.declared.mod_path.PathKind.{PathKind}
 use Rattle.hir_nameres.specs.HirBase.declared.mod_path.PathKind.TheVariants as kinds
 use Rattle.hir_nameres.specs.HirBase.declared.resolve_mode.BuiltinShadowMode.TheVariants as shadow_modes
@@ -46,6 +46,14 @@ asks_on (asker.Module m) = m
 asks_on (asker.Preludes root) = root
 
 -- ---- paths that begin with a name
+
+-- whether paths of a kind do
+abbrev pub is_named_first : PathKind → Bool
+is_named_first kinds.Plain = true
+is_named_first (kinds.Super n) = false
+is_named_first kinds.Crate = false
+is_named_first kinds.Abs = true
+is_named_first (kinds.DollarCrate c) = false
 
 -- what a first name stands for that others follow, in a path without a root
 abbrev pub plain_items : Maps → Local → Asker → List ℕ → PerNs

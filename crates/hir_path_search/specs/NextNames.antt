@@ -1,5 +1,5 @@
 -- Which names come after what a path has come to, and where do they lead?
-use Rattle.std.specs.Prelude.{◌≡◌, ◌⊎◌, ℕ, suc, Bool, List, [], ◌∷◌, Option, None, Some}
+use Rattle.std.specs.Prelude.{◌≡◌, ◌⊎◌, ℕ, Bool, true, List, [], ◌∷◌, Option, None, Some}
 use Rattle.std.specs.List.{Contains}
 use Rattle.hir_nameres.specs.HirBase.declared.mod_path.PathKind.{PathKind}
 use Rattle.hir_nameres.specs.HirBase.declared.resolve_mode.BuiltinShadowMode.TheVariants as shadow_modes
@@ -17,7 +17,7 @@ use Rattle.hir_path_search.specs.declared.names.Stage.TheVariants as stages
 use Rattle.hir_path_search.specs.declared.names.Step.{Step}
 use Rattle.hir_path_search.specs.Judging.{Answers, answered, is_imported_way, is_private_way, type_of}
 use Rattle.hir_path_search.specs.Looks.{behind_all, next_looks}
-use Rattle.hir_path_search.specs.Askers.{first_looks}
+use Rattle.hir_path_search.specs.Askers.{first_looks, is_named_first}
 use Rattle.hir_path_search.specs.Endings.{EndingValue, Ends, IsLeast}
 
 -- ---- where a path is
@@ -31,6 +31,11 @@ whole_at maps local at (stages.Behind looks) = behind_all maps looks.now
 abbrev pub ways_at : Maps → Local → ModuleId → Stage → Answers
 ways_at maps local at (stages.Start kind) = answered maps local shadow_modes.Module at kind
 ways_at maps local at (stages.Behind looks) = behind_all maps looks.now
+
+-- whether a name may come next
+abbrev pub is_named : Stage → Bool
+is_named (stages.Start kind) = is_named_first kind
+is_named (stages.Behind looks) = true
 
 -- where one more name leads that others follow
 abbrev pub next_at : Maps → Local → List Asker → Stage → List ℕ → Option (List Look)

@@ -1,7 +1,7 @@
 //! The names that come after what a path has come to.
-ghost use Rattle.std.specs.Prelude.{◌≡◌, ◌∷◌, [], IfOk, OnOk, None, option_map};
+ghost use Rattle.std.specs.Prelude.{◌≡◌, ◌∷◌, [], IfOk, OnOk, true, option_map};
 ghost use Rattle.hir_nameres.specs.DefMaps.{maps_of};
-ghost use Rattle.hir_path_search.specs.NextNames.{next_at, whole_at, ways_at, AreCandidates, AreNext};
+ghost use Rattle.hir_path_search.specs.NextNames.{is_named, next_at, whole_at, ways_at, AreCandidates, AreNext};
 ghost use Rattle.hir_path_search.specs.Askers.{AreAskers};
 ghost use Rattle.hir_path_search.specs.Judging.{is_imported_way, is_private_way, named_in, type_of};
 ghost use Rattle.hir_path_search.specs.Naming.{sought_named, MeetsEnding, MeetsStep};
@@ -192,8 +192,9 @@ impl<S: Sought> PathSearch<'_, S> {
         candidates: &[Name],
     ) -> Result<NextNames, AllocError>
         requires askers { AreAskers (maps_of self.now.maps) self.now.at self.now.askers.now }
+        requires named { is_named stage ≡ true }
         requires candidates { AreCandidates (whole_at (maps_of self.now.maps) self.now.local.now self.now.at stage)
-            (ways_at (maps_of self.now.maps) self.now.local.now self.now.at stage.entry) (S.is_sought self.now.sought.now) self.now.namespace candidates.now }
+            (ways_at (maps_of self.now.maps) self.now.local.now self.now.at stage) (S.is_sought self.now.sought.now) self.now.namespace candidates.now }
         ensures value { IfOk result (AreNext (maps_of self.now.maps) (whole_at (maps_of self.now.maps) self.now.local.now self.now.at stage.entry)
             (ways_at (maps_of self.now.maps) self.now.local.now self.now.at stage.entry) (S.is_sought self.now.sought.now) self.now.namespace) }
     {
