@@ -1,5 +1,6 @@
 pub mod Orders
 pub mod Onwards
+pub mod Askings
 pub mod Beginnings
 pub mod Through
 pub mod Gathering
@@ -8,3 +9,5 @@ pub mod Listed
 pub mod Hits
 pub mod Covered
 pub mod Starting
+pub mod Builtins
+pub mod First

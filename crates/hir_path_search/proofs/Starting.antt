@@ -93,10 +93,10 @@ module _ (is_sought : ModuleDefId → Bool) (ns : Namespace) where
     where
       by : (type_leads_on items.types ≡ true) ⊎ (type_leads_on items.types ≡ false) → IsNoWay (comes_to maps asks items.types)
       by (inl leads) = absurd (true≢false (sym (hits-leads is_sought ns items leads) ∙ miss))
-      by (inr no) = no_way_type maps asks items.types no
+      by (inr out) = no_way_type maps asks items.types out
 
   -- an answer in which nothing hits: none, or one that doesn't
-  pub NoHit : Option PerNs → Type 0
+  abbrev pub NoHit : Option PerNs → Type 0
   NoHit answer = (answer ≡ None) ⊎ ((p : PerNs) × (answer ≡ Some p) × (hits is_sought ns p ≡ false))
 
   both_miss : (a b : Option PerNs) → NoHit a → NoHit b → NoHit (both a b)
@@ -105,7 +105,7 @@ module _ (is_sought : ModuleDefId → Bool) (ns : Namespace) where
   both_miss a b (inr (p, is_p, miss)) (inr (q, is_q, miss_q)) = inr (or_of p q, (λ i. both (is_p i) (is_q i)), missed (test (hits is_sought ns (or_of p q))))
     where
       missed : (hits is_sought ns (or_of p q) ≡ true) ⊎ (hits is_sought ns (or_of p q) ≡ false) → hits is_sought ns (or_of p q) ≡ false
-      missed (inr no) = no
+      missed (inr out) = out
       missed (inl hit) = elim (hits-or is_sought ns p q hit) [ inl h ↦ absurd (true≢false (sym h ∙ miss)) | inr h ↦ absurd (true≢false (sym h ∙ miss_q)) ]
 
   -- nothing ends there
@@ -136,14 +136,14 @@ module _ (is_sought : ModuleDefId → Bool) (ns : Namespace) where
           → hits is_sought ns (cond same (seen maps look.asks m name) (seen maps (nearest_non_block_module maps m) (nearest_non_block_module maps m) name)) ≡ false
           → IsNoWay (cond same (comes_to maps look.asks (seen maps look.asks m name).types)
               (comes_to maps (nearest_non_block_module maps m) (seen maps (nearest_non_block_module maps m) (nearest_non_block_module maps m) name).types))
-      in_module m true no = no_way-of maps look.asks (seen maps look.asks m name) no
-      in_module m false no = no_way-of maps (nearest_non_block_module maps m) (seen maps (nearest_non_block_module maps m) (nearest_non_block_module maps m) name) no
+      in_module m true out = no_way-of maps look.asks (seen maps look.asks m name) out
+      in_module m false out = no_way-of maps (nearest_non_block_module maps m) (seen maps (nearest_non_block_module maps m) (nearest_non_block_module maps m) name) out
       in_enum : (v : Option EnumVariant) → IsNoWay (past_variant v)
       in_enum None = no_way-stopped
       in_enum (Some v) = no_way-nowhere
       by : (parent : Parent) → hits is_sought ns (items_of_parent maps look.asks parent name) ≡ false → IsNoWay (next_of maps look.asks name parent)
-      by (parents.Module m) no = in_module m (same_crate m.map.krate look.asks.map.krate) no
-      by (parents.Enum id vis) no = in_enum (variant_in maps id name)
+      by (parents.Module m) out = in_module m (same_crate m.map.krate look.asks.map.krate) out
+      by (parents.Enum id vis) out = in_enum (variant_in maps id name)
 
   no_hit_look : (maps : Maps) (look : Look) (name : List ℕ) → hits is_sought ns (items_behind maps look name) ≡ false → NoHit (behind maps look (name ∷ []))
   no_hit_look maps look name miss = by look.parent miss
@@ -152,15 +152,15 @@ module _ (is_sought : ModuleDefId → Bool) (ns : Namespace) where
           → hits is_sought ns (cond same (seen maps look.asks m name) (seen maps (nearest_non_block_module maps m) (nearest_non_block_module maps m) name)) ≡ false
           → NoHit (whole_items (cond same (resolved (seen maps look.asks m name))
               (crossing (resolved (seen maps (nearest_non_block_module maps m) (nearest_non_block_module maps m) name)))))
-      in_module m true no = inr (seen maps look.asks m name, refl, no)
-      in_module m false no = inr (seen maps (nearest_non_block_module maps m) (nearest_non_block_module maps m) name, refl, no)
+      in_module m true out = inr (seen maps look.asks m name, refl, out)
+      in_module m false out = inr (seen maps (nearest_non_block_module maps m) (nearest_non_block_module maps m) name, refl, out)
       in_enum : (item : Item ModuleDefId ImportOrExternCrate) (v : Option EnumVariant) → hits is_sought ns (variant_items item.vis v) ≡ false → NoHit (whole_items (after_enum [] 0 item v))
-      in_enum item None no = inl refl
-      in_enum item (Some v) no = inr (variant_items item.vis (Some v), refl, no)
+      in_enum item None out = inl refl
+      in_enum item (Some v) out = inr (variant_items item.vis (Some v), refl, out)
       by : (parent : Parent) → hits is_sought ns (items_of_parent maps look.asks parent name) ≡ false
           → NoHit (behind maps (record { asks = look.asks; parent = parent }) (name ∷ []))
-      by (parents.Module m) no = in_module m (same_crate m.map.krate look.asks.map.krate) no
-      by (parents.Enum id vis) no = in_enum (record { def = definitions.AdtId (adts.EnumId id); vis = vis; import = None }) (variant_in maps id name) no
+      by (parents.Module m) out = in_module m (same_crate m.map.krate look.asks.map.krate) out
+      by (parents.Enum id vis) out = in_enum (record { def = definitions.AdtId (adts.EnumId id); vis = vis; import = None }) (variant_in maps id name) out
 
   -- all that comes next is among the names
   abbrev pub AreBehind : Maps → List Look → List (List ℕ) → Type 0

@@ -1,9 +1,10 @@
 //! The last segments of a path, and which are better.
 ghost use Rattle.std.specs.Prelude.{◌≡◌, [], IfOk};
-ghost use Rattle.hir_path_search.specs.Endings.{after_name, better_of, last_name, precedes};
+ghost use Rattle.hir_path_search.specs.Endings.{after_name, better_of, ending_cmp, last_name, precedes};
 
 use hir_base::name::Name;
 use std::alloc::{AllocError, Global};
+use std::cmp::Ordering;
 use std::marker::Model;
 
 /// Segments that end a path.
@@ -102,17 +103,20 @@ impl Ending {
         })
     }
 
+    /// The order of endings.
+    fn compared(&self, other: &Ending) -> Ordering
+        ensures value { result ≡ ending_cmp self.now other.now }
+    {
+        let imports = self.imports.cmp(&other.imports);
+        let names = self.names.as_slice().cmp(&other.names.as_slice());
+        self.privates.cmp(&other.privates).then(imports.then(names))
+    }
+
     /// Whether these segments come before others.
     fn precedes(&self, other: &Ending) -> bool
         ensures value { result ≡ precedes self.now other.now }
     {
-        if self.privates != other.privates {
-            return self.privates < other.privates;
-        }
-        if self.imports != other.imports {
-            return self.imports < other.imports;
-        }
-        self.names.as_slice() < other.names.as_slice()
+        matches!(self.compared(other), Ordering::Less)
     }
 }
 
