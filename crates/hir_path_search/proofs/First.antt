@@ -235,7 +235,7 @@ module _ (is_sought : ModuleDefId → Bool) (ns : Namespace) (maps : Maps) where
             alone_else (is_in_edition_2015 (map_in maps root.map)) (extern_name local x) (name_in_preludes maps local root x) miss,
           )
 
-      plain_firsts : (at : ModuleId) (all : List Asker) → ArePlain all names → AreFirst is_sought ns maps local at kinds.Plain all names
+      plain_firsts : (at : ModuleId) (all : List Asker) → ArePlain all names → AreFirst is_sought ns maps local at kinds.Plain refl all names
       plain_firsts at [] are = tt
       plain_firsts at (a ∷ others) are = (plain_first a are.0, plain_firsts at others are.1)
 
@@ -290,7 +290,7 @@ module _ (is_sought : ModuleDefId → Bool) (ns : Namespace) (maps : Maps) where
         by (inl h) = inl (crates x h)
         by (inr out) = inr (no_way-of is_sought ns maps root (extern_name local x) out, in_edition (is_in_edition_2015 (map_in maps root.map)) out)
 
-    absolute_firsts : (at : ModuleId) (all : List Asker) → AreAbsolute all names → AreFirst is_sought ns maps local at kinds.Abs all names
+    absolute_firsts : (at : ModuleId) (all : List Asker) → AreAbsolute all names → AreFirst is_sought ns maps local at kinds.Abs refl all names
     absolute_firsts at [] are = tt
     absolute_firsts at (a ∷ others) are = (absolute_first a are.0, absolute_firsts at others are.1)
 
