@@ -117,8 +117,7 @@ module _ (maps : Maps) (whole ways : Answers) (is_sought : ModuleDefId → Bool)
     met_steps : (name : List ℕ) (old new : List Step) (to : Option (List Look)) → next name ≡ to → StepsTo ways name old new to → AreSteps maps whole ways old
         → AreSteps maps whole ways new
     met_steps name old new None e same are = subst (AreSteps maps whole ways) (sym same) are
-    met_steps name old new (Some []) e same are = subst (AreSteps maps whole ways) (sym same) are
-    met_steps name old new (Some (look ∷ looks)) e (step, to, same) are =
+    met_steps name old new (Some looks) e (step, to, same) are =
         let from : (answers : Answers) → ((y : List ℕ) (w : List (List ℕ)) → answers (name ∷ y ∷ w) ≡ answered_from maps (next name) (y ∷ w))
             → (y : List ℕ) (w : List (List ℕ)) → answers (step.name ∷ y ∷ w) ≡ behind_all maps step.looks.items (y ∷ w) =
             λ answers lead y w. ap (λ n. answers (n ∷ y ∷ w)) to.named ∙ lead y w ∙ ap (λ o. answered_from maps o (y ∷ w)) e
@@ -133,16 +132,13 @@ module _ (maps : Maps) (whole ways : Answers) (is_sought : ModuleDefId → Bool)
 
     met_kept : (name n : List ℕ) (old new : List Step) (to : Option (List Look)) → StepsTo ways name old new to → HasStep old n → HasStep new n
     met_kept name n old new None same has = subst (λ ss. HasStep ss n) (sym same) has
-    met_kept name n old new (Some []) same has = subst (λ ss. HasStep ss n) (sym same) has
-    met_kept name n old new (Some (look ∷ looks)) (step, to, same) has = subst (λ ss. HasStep ss n) (sym same) (has_step-kept old (step ∷ []) n has)
+    met_kept name n old new (Some looks) (step, to, same) has = subst (λ ss. HasStep ss n) (sym same) (has_step-kept old (step ∷ []) n has)
 
     met_new : (name n : List ℕ) (old new : List Step) (to : Option (List Look)) → next name ≡ to → StepsTo ways name old new to → name ≡ n
         → HasStep new n ⊎ LeadsNowhere whole n
     met_new name n old new None e same here =
         inr (λ y w. inl (ap (λ x. whole (x ∷ y ∷ w)) (sym here) ∙ on.whole_on name y w ∙ ap (λ o. answered_from maps o (y ∷ w)) e))
-    met_new name n old new (Some []) e same here =
-        inr (λ y w. inr (ap (λ x. whole (x ∷ y ∷ w)) (sym here) ∙ on.whole_on name y w ∙ ap (λ o. answered_from maps o (y ∷ w)) e))
-    met_new name n old new (Some (look ∷ looks)) e (step, to, same) here =
+    met_new name n old new (Some looks) e (step, to, same) here =
         inl (subst (λ ss. HasStep ss n) (sym same) (has_step-new old step n (to.named ∙ here)))
 
     pub met-more : (name : List ℕ) (left : List (List ℕ)) (ending new_ending : Option EndingValue) (steps new_steps : List Step)

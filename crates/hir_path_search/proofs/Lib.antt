@@ -9,5 +9,6 @@ pub mod Listed
 pub mod Hits
 pub mod Covered
 pub mod Starting
+pub mod Remembered
 pub mod Builtins
 pub mod First

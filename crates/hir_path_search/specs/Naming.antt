@@ -36,8 +36,7 @@ pub record IsStepTo (ways : Answers) (name : List ℕ) (looks : List Look) (step
 
 abbrev pub StepsTo : Answers → List ℕ → List Step → List Step → Option (List Look) → Type 0
 StepsTo ways name old new None = new ≡ old
-StepsTo ways name old new (Some []) = new ≡ old
-StepsTo ways name old new (Some (look ∷ looks)) = (step : Step) × IsStepTo ways name (look ∷ looks) step × (new ≡ old ++ step ∷ [])
+StepsTo ways name old new (Some looks) = (step : Step) × IsStepTo ways name looks step × (new ≡ old ++ step ∷ [])
 
 -- the steps once a name has been looked at
 abbrev pub MeetsStep : Answers → (List ℕ → Option (List Look)) → List ℕ → List Step → List Step → Type 0

@@ -86,7 +86,7 @@ impl<S: Sought> PathSearch<'_, S> {
         ensures value { OnOk result (Adds (S.is_sought self.now.sought.now) self.now.namespace (entries_of scope.now) names.old.items names.new.items) }
     {
         let mut left = scope.entries();
-        'next: while let Some((name, items)) = left.next() {
+        'each: while let Some((name, items)) = left.next() {
             self.meet(alloc, names, name, items)?;
         }
         Ok(())
@@ -102,7 +102,7 @@ impl<S: Sought> PathSearch<'_, S> {
         ensures value { OnOk result (Adds (S.is_sought self.now.sought.now) self.now.namespace (map textual_bound macros.now) names.old.items names.new.items) }
     {
         let mut left = macros.iter();
-        'next: while let Some(defined) = left.next() {
+        'each: while let Some(defined) = left.next() {
             let items = PerNs::macros(defined.makro, Visibility::Public, None);
             self.meet(alloc, names, &defined.name, items)?;
         }
@@ -114,7 +114,7 @@ impl<S: Sought> PathSearch<'_, S> {
         ensures value { OnOk result (Adds (S.is_sought self.now.sought.now) self.now.namespace (map crate_bound self.now.local.now) names.old.items names.new.items) }
     {
         let mut left = self.local.extern_prelude();
-        'next: while let Some((name, (root, _))) = left.next() {
+        'each: while let Some((name, (root, _))) = left.next() {
             let def = ModuleDefId::ModuleId(*root);
             self.meet(alloc, names, name, PerNs::types(def, Visibility::Public, None))?;
         }
@@ -131,7 +131,7 @@ impl<S: Sought> PathSearch<'_, S> {
         ensures value { OnOk result (Adds (S.is_sought self.now.sought.now) self.now.namespace (map macro_bound macros.now.entries) names.old.items names.new.items) }
     {
         let mut left = macros.iter();
-        'next: while let Some((name, (makro, _))) = left.next() {
+        'each: while let Some((name, (makro, _))) = left.next() {
             let items = PerNs::macros(*makro, Visibility::Public, None);
             self.meet(alloc, names, name, items)?;
         }
@@ -148,7 +148,7 @@ impl<S: Sought> PathSearch<'_, S> {
         ensures value { OnOk result (Adds (S.is_sought self.now.sought.now) self.now.namespace (map variant_bound variants.now) names.old.items names.new.items) }
     {
         let mut left = variants.iter();
-        'next: while let Some((name, variant)) = left.next() {
+        'each: while let Some((name, variant)) = left.next() {
             let def = ModuleDefId::EnumVariantId(variant.id);
             let items = PerNs::both(def, def, Visibility::Public, None);
             self.meet(alloc, names, name, items)?;

@@ -171,9 +171,6 @@ impl<S: Sought> PathSearch<'_, S> {
         let Some(looks) = self.next_at(alloc, stage, name)? else {
             return Ok(());
         };
-        if looks.is_empty() {
-            return Ok(());
-        }
         let way = type_of(self.ways_at(stage, name));
         steps.push(Step {
             name: name.clone()?,

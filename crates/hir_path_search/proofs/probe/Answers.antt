@@ -1,4 +1,5 @@
 use Rattle.std.proofs.Common.{refl}
+use Rattle.hir_path_search.proofs.Remembered.{exact_number, exact_looks}
 use Rattle.hir_path_search.proofs.Gathering.{met-all, met-more}
 use Rattle.hir_path_search.proofs.BestPaths.{finds-none}
 use Rattle.hir_path_search.proofs.Listed.{among-textual}

@@ -1,7 +1,7 @@
 //! Definitions, as answers write them.
 ghost use Rattle.std.specs.Prelude.{◌≡◌, Some, codes};
 ghost use Rattle.serde_json.specs.View.{view, items_view, members_view};
-ghost use Rattle.hir_wire.specs.Paths.{name_of};
+ghost use Rattle.hir_wire.specs.Paths.{crate_of, name_of};
 ghost use Rattle.hir_wire.specs.Reading.{Reads, each_of, made, paired, required, word_as};
 ghost use Rattle.hir_wire.specs.Definitions.{block_of_items, block_root_in, builtin_from, call_fields, call_in, call_kind_by, call_kind_in, call_of, call_whole, definition_in, definition_kind_of_word, definition_with, field_count, item_in, of_fields, root_of, source_of_items};
 
@@ -217,7 +217,7 @@ fn read_block_alone(alloc: Global, items: &[Value]) -> Result<BlockAlone, ReadEr
             Ok(place) => Ok(BlockAlone { place }),
             Err(error) => Err(error),
         },
-        _ => Err(ReadError::Command),
+        [] | [_, _, ..] => Err(ReadError::Command),
     }
 }
 
