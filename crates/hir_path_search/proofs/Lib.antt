@@ -10,5 +10,7 @@ pub mod Hits
 pub mod Covered
 pub mod Starting
 pub mod Remembered
+pub mod Slices
 pub mod Builtins
 pub mod First
+pub mod Collected

@@ -5,6 +5,7 @@ ghost use Rattle.hir_nameres.specs.HirBase.declared.mod_path.PathKind.TheVariant
 ghost use Rattle.hir_nameres.specs.HirBase.declared.resolve_mode.BuiltinShadowMode.TheVariants as shadow_modes;
 ghost use Rattle.hir_nameres.specs.HirDefMapRules.Overlay.{entry_in, module_in};
 ghost use Rattle.hir_nameres.specs.HirDefMapRules.Scoping.FirstSegment.{legacy_name, macro_use_name, prelude_name};
+ghost use Rattle.hir_nameres.specs.HirDefMapRules.Scoping.Segments.{seen};
 ghost use Rattle.hir_nameres.specs.HirIds.BuiltinType.{all_builtin_types, builtin_text};
 ghost use Rattle.hir_nameres.specs.HirScope.Scope.Entries.{entries_of};
 ghost use Rattle.hir_path_search.specs.Askers.{AreAskers};
@@ -57,7 +58,10 @@ impl<S: Sought> PathSearch<'_, S> {
         if type_leads_on(items.types) {
             return Ok(true);
         }
-        Ok(self.sought_in(alloc, items)?.is_some())
+        match self.sought_in(alloc, items)? {
+            Some(_) => Ok(true),
+            None => Ok(false),
+        }
     }
 
     /// Adds a name, where what it stands for hits.
@@ -70,9 +74,10 @@ impl<S: Sought> PathSearch<'_, S> {
     ) -> Result<(), AllocError>
         ensures value { OnOk result (Adds (S.is_sought self.now.sought.now) self.now.namespace ((name.now, items) ∷ []) names.old.items names.new.items) }
     {
-        if self.hits(alloc, items)? {
-            names.push(name.clone()?)?;
+        if !self.hits(alloc, items)? {
+            return Ok(());
         }
+        names.push(name.clone()?)?;
         Ok(())
     }
 
@@ -186,7 +191,10 @@ impl<S: Sought> PathSearch<'_, S> {
         ensures value { OnOk result (Covers (S.is_sought self.now.sought.now) self.now.namespace (entry_in (maps_of self.now.maps) «module») names.old.items names.new.items) }
     {
         match self.scope(module) {
-            Some(scope) => self.add_entries(alloc, names, scope),
+            Some(scope) => {
+                self.add_entries(alloc, names, scope)?;
+                Ok(())
+            }
             None => Ok(()),
         }
     }
@@ -201,7 +209,10 @@ impl<S: Sought> PathSearch<'_, S> {
         ensures value { OnOk result (Covers (S.is_sought self.now.sought.now) self.now.namespace (legacy_name (maps_of self.now.maps) None «module») names.old.items names.new.items) }
     {
         match self.scope(module) {
-            Some(scope) => self.add_textual(alloc, names, scope.textual_scope()),
+            Some(scope) => {
+                self.add_textual(alloc, names, scope.textual_scope())?;
+                Ok(())
+            }
             None => Ok(()),
         }
     }
@@ -216,7 +227,10 @@ impl<S: Sought> PathSearch<'_, S> {
         ensures value { OnOk result (Covers (S.is_sought self.now.sought.now) self.now.namespace (macro_use_name (maps_of self.now.maps) at) names.old.items names.new.items) }
     {
         match self.maps.map(at.map) {
-            Some(map) => self.add_macros(alloc, names, map.macro_use_prelude()),
+            Some(map) => {
+                self.add_macros(alloc, names, map.macro_use_prelude())?;
+                Ok(())
+            }
             None => Ok(()),
         }
     }
@@ -231,7 +245,10 @@ impl<S: Sought> PathSearch<'_, S> {
         ensures value { OnOk result (Covers (S.is_sought self.now.sought.now) self.now.namespace (prelude_name (maps_of self.now.maps) at) names.old.items names.new.items) }
     {
         match self.maps.prelude(at.map) {
-            Some((prelude, _)) => self.add_scope(alloc, names, prelude),
+            Some(prelude) => {
+                self.add_scope(alloc, names, prelude.0)?;
+                Ok(())
+            }
             None => Ok(()),
         }
     }
@@ -245,13 +262,20 @@ impl<S: Sought> PathSearch<'_, S> {
     ) -> Result<(), AllocError>
         ensures value { OnOk result (CoversPlain (S.is_sought self.now.sought.now) self.now.namespace (maps_of self.now.maps) asker names.old.items names.new.items) }
     {
-        let at = asker.asks_on();
-        if let Asker::Module(module) = asker {
-            self.add_scope(alloc, names, module)?;
-            self.add_textual_scope(alloc, names, module)?;
+        match asker {
+            Asker::Module(module) => {
+                self.add_scope(alloc, names, module)?;
+                self.add_textual_scope(alloc, names, module)?;
+                self.add_macro_use(alloc, names, module)?;
+                self.add_prelude(alloc, names, module)?;
+                Ok(())
+            }
+            Asker::Preludes(root) => {
+                self.add_macro_use(alloc, names, root)?;
+                self.add_prelude(alloc, names, root)?;
+                Ok(())
+            }
         }
-        self.add_macro_use(alloc, names, at)?;
-        self.add_prelude(alloc, names, at)
     }
 
     /// The same of a path that begins with `::`.
@@ -264,7 +288,10 @@ impl<S: Sought> PathSearch<'_, S> {
         ensures value { OnOk result (CoversAbsolute (S.is_sought self.now.sought.now) self.now.namespace (maps_of self.now.maps) asker names.old.items names.new.items) }
     {
         match asker {
-            Asker::Module(module) => self.add_scope(alloc, names, crate_root(module)),
+            Asker::Module(module) => {
+                self.add_scope(alloc, names, crate_root(module))?;
+                Ok(())
+            }
             Asker::Preludes(_) => Ok(()),
         }
     }
@@ -315,9 +342,26 @@ impl<S: Sought> PathSearch<'_, S> {
             return Ok(());
         };
         match map.enum_variants(id) {
-            Some(variants) => self.add_variants(alloc, names, variants),
+            Some(variants) => {
+                self.add_variants(alloc, names, variants)?;
+                Ok(())
+            }
             None => Ok(()),
         }
+    }
+
+    /// Adds the names of a module that another may see.
+    fn add_seen(
+        &self,
+        alloc: Global,
+        names: &mut Vec<Name>,
+        from: ModuleId,
+        module: ModuleId,
+    ) -> Result<(), AllocError>
+        ensures value { OnOk result (Covers (S.is_sought self.now.sought.now) self.now.namespace (seen (maps_of self.now.maps) from «module») names.old.items names.new.items) }
+    {
+        self.add_scope(alloc, names, module)?;
+        Ok(())
     }
 
     /// Adds the names that may come after what a path has come to.
@@ -332,12 +376,17 @@ impl<S: Sought> PathSearch<'_, S> {
         match look.parent {
             Parent::Module(module) => {
                 if module.map.krate == look.asks.map.krate {
-                    self.add_scope(alloc, names, module)
-                } else {
-                    self.add_scope(alloc, names, self.maps.nearest_non_block_module(module))
+                    self.add_seen(alloc, names, look.asks, module)?;
+                    return Ok(());
                 }
+                let entered = self.maps.nearest_non_block_module(module);
+                self.add_seen(alloc, names, entered, entered)?;
+                Ok(())
             }
-            Parent::Enum(id, _) => self.add_enum(alloc, names, id),
+            Parent::Enum(id, _) => {
+                self.add_enum(alloc, names, id)?;
+                Ok(())
+            }
         }
     }
 
