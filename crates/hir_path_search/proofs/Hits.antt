@@ -16,6 +16,7 @@ use Rattle.hir_nameres.specs.HirPerNs.declared.visibility.Visibility.{Visibility
 use Rattle.hir_path_search.specs.declared.sought.Named.{Named}
 use Rattle.hir_path_search.specs.Candidates.{Adds, Bound, IsAmong, hits, is_sought_by, leads_on, type_leads_on}
 use Rattle.hir_path_search.specs.Judging.{named_by, named_in}
+use Rattle.hir_path_search.specs.Naming.{sought_named}
 
 module _ (is_sought : ModuleDefId → Bool) (ns : Namespace) where
   -- ---- tests
@@ -138,6 +139,16 @@ module _ (is_sought : ModuleDefId → Bool) (ns : Namespace) where
 
   pub hits-leads : (items : PerNs) → type_leads_on items.types ≡ true → hits is_sought ns items ≡ true
   hits-leads items leads = or_right (is_sought_by is_sought (named_in ns items)) (type_leads_on items.types) leads
+
+  pub hits-named : (items : PerNs) (named : Named) → sought_named is_sought (named_in ns items) ≡ Some named → hits is_sought ns items ≡ true
+  hits-named items named e = by (named_in ns items) refl e
+    where
+      found : (b : Bool) (n : Named) → is_sought n.def ≡ b → cond b (Some n) None ≡ Some named → is_sought n.def ≡ true
+      found true n is same = is
+      found false n is same = absurd (true≢false (sym (ap is_some same)))
+      by : (o : Option Named) → named_in ns items ≡ o → sought_named is_sought o ≡ Some named → hits is_sought ns items ≡ true
+      by None is same = absurd (true≢false (sym (ap is_some same)))
+      by (Some n) is same = hits-sought items n is (found (is_sought n.def) n refl same)
 
   -- ---- names one after another
 

@@ -306,7 +306,7 @@ impl<S: Sought> PathSearch<'_, S> {
         self.add_crates(alloc, &mut names)?;
         self.add_builtin_types(&mut names)?;
         let mut left = self.askers;
-        'each: while let [asker, others @ ..] = left {
+        'each: while let Some((asker, others)) = left.split_first() {
             self.add_plain(alloc, &mut names, *asker)?;
             left = others;
         }
@@ -322,7 +322,7 @@ impl<S: Sought> PathSearch<'_, S> {
         let mut names = Vec::new(alloc);
         self.add_crates(alloc, &mut names)?;
         let mut left = self.askers;
-        'each: while let [asker, others @ ..] = left {
+        'each: while let Some((asker, others)) = left.split_first() {
             self.add_absolute(alloc, &mut names, *asker)?;
             left = others;
         }
@@ -401,7 +401,7 @@ impl<S: Sought> PathSearch<'_, S> {
     {
         let mut names = Vec::new(alloc);
         let mut left = looks;
-        'each: while let [look, others @ ..] = left {
+        'each: while let Some((look, others)) = left.split_first() {
             self.add_behind(alloc, &mut names, *look)?;
             left = others;
         }

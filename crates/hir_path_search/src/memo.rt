@@ -39,7 +39,7 @@ pub fn modules_of(alloc: Global, looks: &[Look]) -> Result<Option<Vec<ModuleLook
 {
     let mut modules = Vec::new(alloc);
     let mut left = looks;
-    'each: while let [look, others @ ..] = left {
+    'each: while let Some((look, others)) = left.split_first() {
         let Parent::Module(module) = look.parent else {
             return Ok(None);
         };

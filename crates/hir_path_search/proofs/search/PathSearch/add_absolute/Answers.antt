@@ -8,8 +8,8 @@ use Rattle.hir_path_search.specs.Candidates.{Covers, CoversAbsolute}
 use Rattle.hir_path_search.proofs.Collected.{absolute-module, absolute-preludes}
 use Rattle.hir_path_search.proofs.search.PathSearch.add_absolute.Goals as goal
 
-pub returns-in-Module : goal.returns-in-Module
-returns-in-Module g c =
+pub returns-in_ok-add_scope-in-Module : goal.returns-in_ok-add_scope-in-Module
+returns-in_ok-add_scope-in-Module g c =
     let maps = maps_of c.args.self.now.maps in
     let sought = g.S.Sought.is_sought c.args.self.now.sought.now in
     let ns = c.args.self.now.namespace in

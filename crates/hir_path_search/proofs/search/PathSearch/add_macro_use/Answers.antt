@@ -5,8 +5,8 @@ use Rattle.hir_nameres.specs.DefMaps.{maps_of}
 use Rattle.hir_path_search.proofs.Covered.{covers-macros, covers-no_macros}
 use Rattle.hir_path_search.proofs.search.PathSearch.add_macro_use.Goals as goal
 
-pub returns-in-Some : goal.returns-in-Some
-returns-in-Some g c =
+pub returns-in_ok-add_macros-in-Some : goal.returns-in_ok-add_macros-in-Some
+returns-in_ok-add_macros-in-Some g c =
     let sought = g.S.Sought.is_sought c.args.self.now.sought.now in
     let ns = c.args.self.now.namespace in
     let P : List Bound → Type 0 = λ all. Adds sought ns all c.args.names.now.items c.add_macros.new.names.items in

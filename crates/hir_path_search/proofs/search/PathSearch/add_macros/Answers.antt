@@ -1,5 +1,7 @@
 -- One after another is looked at.
-use Rattle.std.proofs.Common.{rules, ◌≡◌, ◌∷◌, [], ℕ, List, map, ap, sym, subst}
+use Rattle.std.proofs.Common.{rules, ◌≡◌, ◌∷◌, [], ℕ, List, Option, map, ap, sym, subst}
+use Rattle.hir_nameres.specs.HirIds.declared.ids.ExternCrateId.{ExternCrateId}
+use Rattle.hir_nameres.specs.HirIds.declared.macro_kind.MacroId.{MacroId}
 use Rattle.hir_path_search.specs.Candidates.{Bound, macro_bound}
 use Rattle.hir_path_search.proofs.Hits.{AreAdding, adding-all, adding-more, adding-none}
 use Rattle.hir_path_search.proofs.search.PathSearch.add_macros.Goals as goal
@@ -17,7 +19,7 @@ each-preserved g c =
     let sought = g.S.Sought.is_sought c.args.self.now.sought.now in
     let ns = c.args.self.now.namespace in
     let all : List Bound = map macro_bound c.args.macros.now.entries in
-    let entry = (c.in-Some.name.now, (c.in-Some.makro.now, c.in-Some.field-0-1-1)) in
+    let entry : List ℕ × (MacroId × Option ExternCrateId) = (c.in-Some.name.now, (c.in-Some.makro.now, c.in-Some.field-0-1-1)) in
     let taken : c.each.left ≡ entry ∷ c.next.new.self = search rules in
     let P : List Bound → Type 0 = λ left. AreAdding sought ns all left c.args.names.now.items c.each.names.items in
     adding-more sought ns all (map macro_bound c.next.new.self) (macro_bound entry) c.args.names.now.items c.each.names.items c.meet.new.names.items

@@ -6,8 +6,8 @@ use Rattle.hir_path_search.specs.Candidates.{CoversPlain}
 use Rattle.hir_path_search.proofs.Collected.{plain-module, plain-preludes}
 use Rattle.hir_path_search.proofs.search.PathSearch.add_plain.Goals as goal
 
-pub returns-in-Module : goal.returns-in-Module
-returns-in-Module g c =
+pub returns-in_ok-add_prelude-in-Module : goal.returns-in_ok-add_prelude-in-Module
+returns-in_ok-add_prelude-in-Module g c =
     let maps = maps_of c.args.self.now.maps in
     let sought = g.S.Sought.is_sought c.args.self.now.sought.now in
     let ns = c.args.self.now.namespace in
@@ -18,8 +18,8 @@ returns-in-Module g c =
           c.in_ok-add_macro_use.ensures.value c.in_ok-add_prelude.ensures.value);
     }
 
-pub returns-in-Preludes : goal.returns-in-Preludes
-returns-in-Preludes g c =
+pub returns-in_ok-add_prelude-in-Preludes : goal.returns-in_ok-add_prelude-in-Preludes
+returns-in_ok-add_prelude-in-Preludes g c =
     let maps = maps_of c.args.self.now.maps in
     let sought = g.S.Sought.is_sought c.args.self.now.sought.now in
     let ns = c.args.self.now.namespace in

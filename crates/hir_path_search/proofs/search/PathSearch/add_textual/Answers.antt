@@ -1,5 +1,6 @@
 -- One after another is looked at.
-use Rattle.std.proofs.Common.{rules, ◌≡◌, ◌∷◌, [], ℕ, List, map, ap, sym, subst}
+use Rattle.std.proofs.Common.{rules, ◌≡◌, ◌∷◌, [], ℕ, List, Option, map, ap, sym, subst}
+use Rattle.hir_nameres.specs.HirTextualScope.declared.textual_scope.TextualMacro.{TextualMacro}
 use Rattle.hir_path_search.specs.Candidates.{Bound, textual_bound}
 use Rattle.hir_path_search.proofs.Hits.{AreAdding, adding-all, adding-more, adding-none}
 use Rattle.hir_path_search.proofs.search.PathSearch.add_textual.Goals as goal
@@ -17,7 +18,7 @@ each-preserved g c =
     let sought = g.S.Sought.is_sought c.args.self.now.sought.now in
     let ns = c.args.self.now.namespace in
     let all : List Bound = map textual_bound c.args.macros.now in
-    let entry = c.in-Some.defined.now in
+    let entry : TextualMacro = c.in-Some.defined.now in
     let taken : c.each.left ≡ entry ∷ c.next.new.self = search rules in
     let P : List Bound → Type 0 = λ left. AreAdding sought ns all left c.args.names.now.items c.each.names.items in
     adding-more sought ns all (map textual_bound c.next.new.self) (textual_bound entry) c.args.names.now.items c.each.names.items c.meet.new.names.items

@@ -1,5 +1,6 @@
 -- One after another is looked at.
-use Rattle.std.proofs.Common.{rules, ◌≡◌, ◌∷◌, [], ℕ, List, map, ap, sym, subst}
+use Rattle.std.proofs.Common.{rules, ◌≡◌, ◌∷◌, [], ℕ, List, Option, map, ap, sym, subst}
+use Rattle.hir_nameres.specs.HirMapParts.declared.enum_variants.EnumVariant.{EnumVariant}
 use Rattle.hir_path_search.specs.Candidates.{Bound, variant_bound}
 use Rattle.hir_path_search.proofs.Hits.{AreAdding, adding-all, adding-more, adding-none}
 use Rattle.hir_path_search.proofs.search.PathSearch.add_variants.Goals as goal
@@ -17,7 +18,7 @@ each-preserved g c =
     let sought = g.S.Sought.is_sought c.args.self.now.sought.now in
     let ns = c.args.self.now.namespace in
     let all : List Bound = map variant_bound c.args.variants.now in
-    let entry = (c.in-Some.name.now, c.in-Some.variant.now) in
+    let entry : List ℕ × EnumVariant = (c.in-Some.name.now, c.in-Some.variant.now) in
     let taken : c.each.left ≡ entry ∷ c.next.new.self = search rules in
     let P : List Bound → Type 0 = λ left. AreAdding sought ns all left c.args.names.now.items c.each.names.items in
     adding-more sought ns all (map variant_bound c.next.new.self) (variant_bound entry) c.args.names.now.items c.each.names.items c.meet.new.names.items
