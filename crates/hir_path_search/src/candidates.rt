@@ -121,7 +121,8 @@ impl<S: Sought> PathSearch<'_, S> {
         let mut left = self.local.extern_prelude();
         'each: while let Some((name, (root, _))) = left.next() {
             let def = ModuleDefId::ModuleId(*root);
-            self.meet(alloc, names, name, PerNs::types(def, Visibility::Public, None))?;
+            let items = PerNs::types(def, Visibility::Public, None);
+            self.meet(alloc, names, name, items)?;
         }
         Ok(())
     }

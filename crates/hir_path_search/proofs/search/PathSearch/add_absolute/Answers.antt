@@ -17,7 +17,7 @@ returns-in_ok-add_scope-in-Module g c =
     let Q : ModuleId → Type 0 = λ m. Covers sought ns (entry_in maps m) c.args.names.now.items c.add_scope.new.names.items in
     record {
       value = subst P (sym c.in-Module.is) (absolute-module sought ns maps c.in-Module.«module» c.args.names.now.items c.add_scope.new.names.items
-          (subst Q c.crate_root.ensures.value c.in_ok-add_scope.ensures.value));
+          (subst Q c.crate_root.ensures.value c.in_ok-add_scope-in-Module.ensures.value));
     }
 
 pub returns-in-Preludes : goal.returns-in-Preludes

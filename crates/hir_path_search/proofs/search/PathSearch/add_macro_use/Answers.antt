@@ -13,7 +13,7 @@ returns-in_ok-add_macros-in-Some g c =
     record {
       value = covers-macros sought ns (maps_of c.args.self.now.maps) c.args.at c.in-Some.map.now
           c.args.names.now.items c.add_macros.new.names.items c.in-Some.ensures.value
-          (subst P (ap (map macro_bound) c.macro_use_prelude.ensures.value) c.in_ok-add_macros.ensures.value);
+          (subst P (ap (map macro_bound) c.macro_use_prelude.ensures.value) c.in_ok-add_macros-in-Some.ensures.value);
     }
 
 pub returns-in-None : goal.returns-in-None

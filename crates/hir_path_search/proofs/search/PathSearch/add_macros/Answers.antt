@@ -2,7 +2,8 @@
 use Rattle.std.proofs.Common.{rules, ◌≡◌, ◌∷◌, [], ℕ, List, Option, map, ap, sym, subst}
 use Rattle.hir_nameres.specs.HirIds.declared.ids.ExternCrateId.{ExternCrateId}
 use Rattle.hir_nameres.specs.HirIds.declared.macro_kind.MacroId.{MacroId}
-use Rattle.hir_path_search.specs.Candidates.{Bound, macro_bound}
+use Rattle.hir_nameres.specs.HirPerNs.declared.per_ns.PerNs.{PerNs}
+use Rattle.hir_path_search.specs.Candidates.{Adds, Bound, macro_bound}
 use Rattle.hir_path_search.proofs.Hits.{AreAdding, adding-all, adding-more, adding-none}
 use Rattle.hir_path_search.proofs.search.PathSearch.add_macros.Goals as goal
 
@@ -22,8 +23,9 @@ each-preserved g c =
     let entry : List ℕ × (MacroId × Option ExternCrateId) = (c.in-Some.name.now, (c.in-Some.makro.now, c.in-Some.field-0-1-1)) in
     let taken : c.each.left ≡ entry ∷ c.next.new.self = search rules in
     let P : List Bound → Type 0 = λ left. AreAdding sought ns all left c.args.names.now.items c.each.names.items in
+    let Q : PerNs → Type 0 = λ items. Adds sought ns (((macro_bound entry).0, items) ∷ []) c.each.names.items c.meet.new.names.items in
     adding-more sought ns all (map macro_bound c.next.new.self) (macro_bound entry) c.args.names.now.items c.each.names.items c.meet.new.names.items
-    (subst P (ap (map macro_bound) taken) c.each.invariant) c.in_ok-meet.ensures.value
+    (subst P (ap (map macro_bound) taken) c.each.invariant) (subst Q c.macros-items.ensures.value c.in_ok-meet.ensures.value)
 
 pub returns : goal.returns
 returns g c =

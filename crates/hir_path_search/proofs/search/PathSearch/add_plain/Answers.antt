@@ -14,8 +14,8 @@ returns-in_ok-add_prelude-in-Module g c =
     let P : Asker → Type 0 = λ a. CoversPlain sought ns maps a c.args.names.now.items c.add_prelude.new.names.items in
     record {
       value = subst P (sym c.in-Module.is) (plain-module sought ns maps c.in-Module.«module» c.args.names.now.items c.add_scope.new.names.items c.add_textual_scope.new.names.items
-          c.add_macro_use.new.names.items c.add_prelude.new.names.items c.in_ok-add_scope.ensures.value c.in_ok-add_textual_scope.ensures.value
-          c.in_ok-add_macro_use.ensures.value c.in_ok-add_prelude.ensures.value);
+          c.add_macro_use.new.names.items c.add_prelude.new.names.items c.in_ok-add_scope-in-Module.ensures.value c.in_ok-add_textual_scope-in-Module.ensures.value
+          c.in_ok-add_macro_use-in-Module.ensures.value c.in_ok-add_prelude-in-Module.ensures.value);
     }
 
 pub returns-in_ok-add_prelude-in-Preludes : goal.returns-in_ok-add_prelude-in-Preludes
@@ -26,5 +26,5 @@ returns-in_ok-add_prelude-in-Preludes g c =
     let P : Asker → Type 0 = λ a. CoversPlain sought ns maps a c.args.names.now.items c.add_prelude.new.names.items in
     record {
       value = subst P (sym c.in-Preludes.is) (plain-preludes sought ns maps c.in-Preludes.root c.args.names.now.items
-          c.add_macro_use.new.names.items c.add_prelude.new.names.items c.in_ok-add_macro_use.ensures.value c.in_ok-add_prelude.ensures.value);
+          c.add_macro_use.new.names.items c.add_prelude.new.names.items c.in_ok-add_macro_use-in-Preludes.ensures.value c.in_ok-add_prelude-in-Preludes.ensures.value);
     }

@@ -13,7 +13,7 @@ returns-in_ok-add_textual-in-Some g c =
     record {
       value = covers-textual sought ns (maps_of c.args.self.now.maps) c.args.«module» c.in-Some.scope.now
           c.args.names.now.items c.add_textual.new.names.items c.in-Some.ensures.value
-          (subst P (ap (map textual_bound) c.textual_scope.ensures.value) c.in_ok-add_textual.ensures.value);
+          (subst P (ap (map textual_bound) c.textual_scope.ensures.value) c.in_ok-add_textual-in-Some.ensures.value);
     }
 
 pub returns-in-None : goal.returns-in-None

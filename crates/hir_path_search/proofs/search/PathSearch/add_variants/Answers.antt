@@ -1,7 +1,8 @@
 -- One after another is looked at.
 use Rattle.std.proofs.Common.{rules, ◌≡◌, ◌∷◌, [], ℕ, List, Option, map, ap, sym, subst}
 use Rattle.hir_nameres.specs.HirMapParts.declared.enum_variants.EnumVariant.{EnumVariant}
-use Rattle.hir_path_search.specs.Candidates.{Bound, variant_bound}
+use Rattle.hir_nameres.specs.HirPerNs.declared.per_ns.PerNs.{PerNs}
+use Rattle.hir_path_search.specs.Candidates.{Adds, Bound, variant_bound}
 use Rattle.hir_path_search.proofs.Hits.{AreAdding, adding-all, adding-more, adding-none}
 use Rattle.hir_path_search.proofs.search.PathSearch.add_variants.Goals as goal
 
@@ -21,8 +22,9 @@ each-preserved g c =
     let entry : List ℕ × EnumVariant = (c.in-Some.name.now, c.in-Some.variant.now) in
     let taken : c.each.left ≡ entry ∷ c.next.new.self = search rules in
     let P : List Bound → Type 0 = λ left. AreAdding sought ns all left c.args.names.now.items c.each.names.items in
+    let Q : PerNs → Type 0 = λ items. Adds sought ns (((variant_bound entry).0, items) ∷ []) c.each.names.items c.meet.new.names.items in
     adding-more sought ns all (map variant_bound c.next.new.self) (variant_bound entry) c.args.names.now.items c.each.names.items c.meet.new.names.items
-    (subst P (ap (map variant_bound) taken) c.each.invariant) c.in_ok-meet.ensures.value
+    (subst P (ap (map variant_bound) taken) c.each.invariant) (subst Q c.both-items.ensures.value c.in_ok-meet.ensures.value)
 
 pub returns : goal.returns
 returns g c =

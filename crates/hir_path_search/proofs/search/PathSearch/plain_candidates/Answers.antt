@@ -1,9 +1,10 @@
 -- What those that answer give, one after another.
-use Rattle.std.proofs.Common.{rules, ◌≡◌, ◌∷◌, [], ℕ, List, map, sym, subst}
+use Rattle.std.proofs.Common.{rules, ◌≡◌, ◌∷◌, [], ℕ, List, length, map, sym, subst}
 use Rattle.hir_nameres.specs.DefMaps.{maps_of}
 use Rattle.hir_path_search.specs.declared.askers.Asker.{Asker}
 use Rattle.hir_path_search.specs.Candidates.{Adds, crate_bound}
 use Rattle.hir_path_search.proofs.First.{HavePlain, plain-candidates, plain-more, plain-none}
+use Rattle.hir_path_search.proofs.Slices.{empty_list}
 use Rattle.hir_path_search.proofs.search.PathSearch.plain_candidates.Goals as goal
 
 pub each-init : goal.each-init
@@ -33,7 +34,8 @@ returns g c =
     let maps = maps_of c.args.self.now.maps in
     let sought = g.S.Sought.is_sought c.args.self.now.sought.now in
     let ns = c.args.self.now.namespace in
-    let none : c.each.left.now ≡ [] = search rules in
+    let zero : length c.each.left.now ≡ 0 = search rules in
+    let none : c.each.left.now ≡ [] = empty_list c.each.left.now zero in
     let P : List Asker → Type 0 = λ left. HavePlain sought ns maps c.args.self.now.local.now c.args.self.now.askers.now left c.each.names.items in
     record {
       value = plain-candidates sought ns maps c.args.self.now.local.now c.args.self.now.at c.args.self.now.askers.now c.each.names.items c.requires.askers (subst P none c.each.invariant);
