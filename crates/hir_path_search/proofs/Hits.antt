@@ -1,7 +1,7 @@
 -- Names that hit, and what comes of those that don't.
 use Rattle.std.proofs.Common.{◌≡◌, ℕ, zero, suc, ◌+◌, ◌<◌, Bool, true, false, ◌&&◌, ◌||◌, cond, List, [], ◌∷◌, ◌++◌, Option, Some, None, option_map, is_some, refl, sym, ap, subst, ◌∙◌, inl, inr, ◌⊎◌, true≢false}
 use Rattle.std.specs.List.{Contains}
-use Rattle.std.proofs.lemmas.List.Elements.{Contains-append_left, Contains-push}
+use Rattle.std.proofs.lemmas.List.Elements.{Contains-append_left, Contains-append_right, Contains-push}
 use Rattle.hir_nameres.specs.HirIds.declared.ids.AdtId.TheVariants as adts
 use Rattle.hir_nameres.specs.HirIds.declared.ids.ModuleDefId.{ModuleDefId}
 use Rattle.hir_nameres.specs.HirIds.declared.ids.ModuleDefId.TheVariants as definitions
@@ -14,7 +14,7 @@ use Rattle.hir_nameres.specs.HirPerNs.declared.per_ns.Namespace.TheVariants as n
 use Rattle.hir_nameres.specs.HirPerNs.declared.per_ns.PerNs.{PerNs}
 use Rattle.hir_nameres.specs.HirPerNs.declared.visibility.Visibility.{Visibility}
 use Rattle.hir_path_search.specs.declared.sought.Named.{Named}
-use Rattle.hir_path_search.specs.Candidates.{Adds, Bound, IsAmong, hits, is_sought_by, leads_on, type_leads_on}
+use Rattle.hir_path_search.specs.Candidates.{Adds, Bound, Includes, IsAmong, hits, is_sought_by, leads_on, type_leads_on}
 use Rattle.hir_path_search.specs.Judging.{named_by, named_in}
 use Rattle.hir_path_search.specs.Naming.{sought_named}
 
@@ -192,3 +192,14 @@ module _ (is_sought : ModuleDefId → Bool) (ns : Namespace) where
       by : (x : List ℕ) (items : PerNs) → IsAmong {A = Bound} [] (x, items) ⊎ Contains now x → Contains now x
       by x items (inl none) = absurd none
       by x items (inr has) = has
+
+pub contains_from_among : {A : Type 0} (xs : List A) (x : A) → IsAmong xs x → Contains xs x
+contains_from_among [] x h = absurd h
+contains_from_among {A} (y ∷ ys) x (inl e) = subst (λ (z : A). Contains (z ∷ ys) x) (sym e) (Contains-append_left (x ∷ []) ys x (Contains-push [] x))
+contains_from_among (y ∷ ys) x (inr h) = Contains-append_right (y ∷ []) ys x (contains_from_among ys x h)
+
+pub includes-behind : (added old : List (List ℕ)) → Includes added old (old ++ added)
+includes-behind added old = record {
+  keeps = λ x has. Contains-append_left old added x has;
+  has = λ x among. Contains-append_right old added x (contains_from_among added x among);
+}

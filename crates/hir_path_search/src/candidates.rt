@@ -119,8 +119,8 @@ impl<S: Sought> PathSearch<'_, S> {
         ensures value { OnOk result (Adds (S.is_sought self.now.sought.now) self.now.namespace (map crate_bound self.now.local.now) names.old.items names.new.items) }
     {
         let mut left = self.local.extern_prelude();
-        'each: while let Some((name, (root, _))) = left.next() {
-            let def = ModuleDefId::ModuleId(*root);
+        'each: while let Some((name, entry)) = left.next() {
+            let def = ModuleDefId::ModuleId(entry.0);
             let items = PerNs::types(def, Visibility::Public, None);
             self.meet(alloc, names, name, items)?;
         }
@@ -137,8 +137,8 @@ impl<S: Sought> PathSearch<'_, S> {
         ensures value { OnOk result (Adds (S.is_sought self.now.sought.now) self.now.namespace (map macro_bound macros.now.entries) names.old.items names.new.items) }
     {
         let mut left = macros.iter();
-        'each: while let Some((name, (makro, _))) = left.next() {
-            let items = PerNs::macros(*makro, Visibility::Public, None);
+        'each: while let Some((name, entry)) = left.next() {
+            let items = PerNs::macros(entry.0, Visibility::Public, None);
             self.meet(alloc, names, name, items)?;
         }
         Ok(())

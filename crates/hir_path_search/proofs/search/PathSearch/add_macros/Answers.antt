@@ -13,14 +13,14 @@ each-init g c =
     let ns = c.args.self.now.namespace in
     let all : List Bound = map macro_bound c.args.macros.now.entries in
     let P : List Bound → Type 0 = λ left. AreAdding sought ns all left c.args.names.now.items c.args.names.now.items in
-    subst P (ap (map macro_bound) (sym c.iter-left.ensures.value)) (adding-none sought ns all c.args.names.now.items)
+    subst P (ap (map macro_bound) (sym c.iter-left.ensures.rest)) (adding-none sought ns all c.args.names.now.items)
 
 pub each-preserved : goal.each-preserved
 each-preserved g c =
     let sought = g.S.Sought.is_sought c.args.self.now.sought.now in
     let ns = c.args.self.now.namespace in
     let all : List Bound = map macro_bound c.args.macros.now.entries in
-    let entry : List ℕ × (MacroId × Option ExternCrateId) = (c.in-Some.name.now, (c.in-Some.makro.now, c.in-Some.field-0-1-1)) in
+    let entry : List ℕ × (MacroId × Option ExternCrateId) = (c.in-Some.name.now, c.in-Some.entry.now) in
     let taken : c.each.left ≡ entry ∷ c.next.new.self = search rules in
     let P : List Bound → Type 0 = λ left. AreAdding sought ns all left c.args.names.now.items c.each.names.items in
     let Q : PerNs → Type 0 = λ items. Adds sought ns (((macro_bound entry).0, items) ∷ []) c.each.names.items c.meet.new.names.items in

@@ -23,8 +23,8 @@ returns-in_ok-add_prelude-in-Preludes g c =
     let maps = maps_of c.args.self.now.maps in
     let sought = g.S.Sought.is_sought c.args.self.now.sought.now in
     let ns = c.args.self.now.namespace in
-    let P : Asker → Type 0 = λ a. CoversPlain sought ns maps a c.args.names.now.items c.add_prelude.new.names.items in
+    let P : Asker → Type 0 = λ a. CoversPlain sought ns maps a c.args.names.now.items c.add_prelude-in-Preludes.new.names.items in
     record {
       value = subst P (sym c.in-Preludes.is) (plain-preludes sought ns maps c.in-Preludes.root c.args.names.now.items
-          c.add_macro_use.new.names.items c.add_prelude.new.names.items c.in_ok-add_macro_use-in-Preludes.ensures.value c.in_ok-add_prelude-in-Preludes.ensures.value);
+          c.add_macro_use-in-Preludes.new.names.items c.add_prelude-in-Preludes.new.names.items c.in_ok-add_macro_use-in-Preludes.ensures.value c.in_ok-add_prelude-in-Preludes.ensures.value);
     }
