@@ -71,9 +71,10 @@ pub fn askers(alloc: Global, maps: &DefMaps<'_>, at: ModuleId) -> Result<Vec<Ask
             None => return Ok(askers),
         }
     }
-    if last.map.block.is_some() {
-        askers.push(Asker::Preludes(crate_root(last)))?;
+    if last.map.block.is_none() {
+        return Ok(askers);
     }
+    askers.push(Asker::Preludes(crate_root(last)))?;
     Ok(askers)
 }
 
