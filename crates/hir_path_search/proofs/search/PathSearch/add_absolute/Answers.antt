@@ -26,4 +26,4 @@ returns-in-Preludes g c =
     let sought = g.S.Sought.is_sought c.args.self.now.sought.now in
     let ns = c.args.self.now.namespace in
     let P : Asker → Type 0 = λ a. CoversAbsolute sought ns maps a c.args.names.now.items c.args.names.now.items in
-    record { value = subst P (sym c.in-Preludes.is) (absolute-preludes sought ns maps c.in-Preludes.root c.args.names.now.items) }
+    record { value = subst P (sym c.in-Preludes.is) (absolute-preludes sought ns maps c.in-Preludes.field-0 c.args.names.now.items) }

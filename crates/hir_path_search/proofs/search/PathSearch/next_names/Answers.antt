@@ -1,11 +1,11 @@
 -- One candidate after another is met.
-use Rattle.std.proofs.Common.{rules, ◌≡◌, ℕ, ◌-◌, List, [], ◌∷◌, Option, None, length, take, drop, sym, subst}
+use Rattle.std.proofs.Common.{arith, ◌≡◌, ℕ, ◌-◌, List, [], ◌∷◌, Option, None, length, take, drop, sym, subst}
 use Rattle.hir_nameres.specs.DefMaps.{maps_of}
 use Rattle.hir_path_search.specs.declared.names.NextNames.{NextNames}
 use Rattle.hir_path_search.specs.declared.names.Step.{Step}
 use Rattle.hir_path_search.specs.NextNames.{next_at, ways_at, whole_at}
 use Rattle.hir_path_search.proofs.Gathering.{AreMet, met-all, met-more, met-none}
-use Rattle.hir_path_search.proofs.Slices.{first_and_others}
+use Rattle.hir_path_search.proofs.Slices.{empty_list, first_and_others}
 use Rattle.hir_path_search.proofs.Starting.{leads_on-at}
 use Rattle.hir_path_search.proofs.search.PathSearch.next_names.Goals as goal
 
@@ -33,7 +33,7 @@ each-preserved g c =
     let P : List (List ℕ) → Type 0 = λ left. AreMet maps whole ways sought ns left c.each.ending c.each.steps.items in
     met-more maps whole ways sought ns (next_at maps c.args.self.now.local.now c.args.self.now.askers.now c.args.stage)
     (leads_on-at maps c.args.self.now.local.now c.args.self.now.at c.args.self.now.askers.now c.requires.askers c.args.stage c.requires.named)
-    e others c.each.ending c.in_ok-ending.field-0 c.each.steps.items c.meet_step.new.steps.items (subst P taken c.each.invariant)
+    e others c.each.ending c.in_ok-ending.ending c.each.steps.items c.meet_step.new.steps.items (subst P taken c.each.invariant)
     c.in_ok-ending.ensures.value c.in_ok-meet_step.ensures.value
 
 pub returns : goal.returns
@@ -43,7 +43,7 @@ returns g c =
     let ns = c.args.self.now.namespace in
     let whole = whole_at maps c.args.self.now.local.now c.args.self.now.at c.args.stage in
     let ways = ways_at maps c.args.self.now.local.now c.args.self.now.at c.args.stage in
-    let none : c.each.left.now ≡ [] = search rules in
+    let none : c.each.left.now ≡ [] = empty_list c.each.left.now (omega (arith, c.in_default.len_below)) in
     let P : List (List ℕ) → Type 0 = λ left. AreMet maps whole ways sought ns left c.each.ending c.each.steps.items in
     let next : NextNames = record { ending = c.each.ending; steps = c.each.steps } in
     record { value = met-all maps whole ways sought ns next (subst P none c.each.invariant) }
