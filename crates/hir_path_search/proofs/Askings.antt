@@ -83,7 +83,7 @@ module _ (maps : Maps) (asking : Asking) (kind : PathKind) (names : List (List �
   inherited_beyond (h ∷ holders) r m = by (is_block_root m) (inherited_beyond holders (joined r (from_start maps asking h kind names)) h)
     where
       by : (b : Bool) → whole_items (inherited maps asking kind names (joined r (from_start maps asking h kind names)) h holders)
-              ≡ both (whole_items (joined r (from_start maps asking h kind names))) (beyond h holders)
+          ≡ both (whole_items (joined r (from_start maps asking h kind names))) (beyond h holders)
           → whole_items (cond b (inherited maps asking kind names (joined r (from_start maps asking h kind names)) h holders) (with_preludes maps asking kind names r m))
           ≡ both (whole_items r) (cond b (both (whole_items (from_start maps asking h kind names)) (beyond h holders)) (past m))
       by true further = further ∙ ap (λ a. both a (beyond h holders)) (whole_joined r (from_start maps asking h kind names))
@@ -131,9 +131,9 @@ module _ (maps : Maps) (at : ModuleId) where
       are asking kind names
       ∙ ap (λ hs. both (asked_of_all maps asking askers kind names) (beyond maps asking kind names last hs)) above
       ∙ ap (λ r. both (asked_of_all maps asking askers kind names)
-          (cond r (both (whole_items (from_start maps asking holder kind names)) (beyond maps asking kind names holder (holders_in maps holder))) (past maps asking kind names last))) root
+      (cond r (both (whole_items (from_start maps asking holder kind names)) (beyond maps asking kind names holder (holders_in maps holder))) (past maps asking kind names last))) root
       ∙ sym (both_assoc (asked_of_all maps asking askers kind names) (whole_items (from_start maps asking holder kind names))
-          (beyond maps asking kind names holder (holders_in maps holder)))
+      (beyond maps asking kind names holder (holders_in maps holder)))
       ∙ ap (λ a. both a (beyond maps asking kind names holder (holders_in maps holder))) (sym (asked_push maps asking kind names askers (asker.Module holder)))
 
   pub some-outermost : (askers : List Asker) (last : ModuleId) → is_block_root last ≡ true → holders_in maps last ≡ [] → AreSome maps at askers last → AreAskers maps at askers
@@ -148,12 +148,12 @@ module _ (maps : Maps) (at : ModuleId) where
   some-inside askers last root inside are asking kind names =
       are asking kind names
       ∙ ap (both (asked_of_all maps asking askers kind names))
-          (beyond_last maps asking kind names last (holders_in maps last) root ∙ past_inside maps asking kind names last root inside)
+      (beyond_last maps asking kind names last (holders_in maps last) root ∙ past_inside maps asking kind names last root inside)
       ∙ sym (asked_push maps asking kind names askers (asker.Preludes (crate_root last.map.krate)))
 
   pub some-outside : (askers : List Asker) (last : ModuleId) → is_block_root last ≡ false → is_some last.map.block ≡ false → AreSome maps at askers last → AreAskers maps at askers
   some-outside askers last root outside are asking kind names =
       are asking kind names
       ∙ ap (both (asked_of_all maps asking askers kind names))
-          (beyond_last maps asking kind names last (holders_in maps last) root ∙ past_outside maps asking kind names last outside)
+      (beyond_last maps asking kind names last (holders_in maps last) root ∙ past_outside maps asking kind names last outside)
       ∙ both_empty (asked_of_all maps asking askers kind names)

@@ -302,6 +302,7 @@ module _ (maps : Maps) (local : Local) (at : ModuleId) (is_sought : ModuleDefId 
     where
       never : false ≡ true → ⊥
       never same = cc
+
       by : (kind : PathKind) → q.kind ≡ kind → (may_begin prefixes.Crate q.kind ≡ true) × (supers_of q.kind ≤ 255) × (length q.segments ≡ count)
           → IsOfKind kinds.Crate count q ⊎ IsOfKind kinds.Abs count q
       by kinds.Plain e (begins, levels, long) = absurd (never (sym (ap (may_begin prefixes.Crate) e) ∙ begins))
@@ -370,6 +371,7 @@ module _ (maps : Maps) (local : Local) (at : ModuleId) (is_sought : ModuleDefId 
       trichotomy zero (suc b) = inl (omega arith)
       trichotomy (suc a) zero = inr (inr (omega arith))
       trichotomy (suc a) (suc b) = elim (trichotomy a b) [ inl lt ↦ inl (omega (arith, lt)) | inr (inl same) ↦ inr (inl (ap suc same)) | inr (inr gt) ↦ inr (inr (omega (arith, gt))) ]
+
       by : (other : Path) (by_import : Bool) → IsCandidate prefix most other → Named other by_import
           → (length other.segments < count) ⊎ ((length other.segments ≡ count) ⊎ (count < length other.segments))
           → comes_before (Judged by_import other) (Judged best.imported path) ≡ false

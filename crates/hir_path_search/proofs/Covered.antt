@@ -82,6 +82,7 @@ module _ (is_sought : ModuleDefId → Bool) (ns : Namespace) where
       found : (x : List ℕ) (o : Option MacroId) → last_of scope.legacy_macros x ≡ o → hits is_sought ns (legacy_bound None o) ≡ true → Contains new x
       found x None e hit = absurd (no_hit is_sought ns nothing refl hit)
       found x (Some makro) e hit = adds.has x (macros_only makro Public None) (among-textual scope.legacy_macros x makro e) hit
+
       by : (o : Option ModuleValue) (x : List ℕ) → Some scope ≡ scope_of o → hits is_sought ns (legacy_bound None (legacy_of o x)) ≡ true → Contains new x
       by None x e hit = absurd (some_apart e)
       by (Some mv) x e hit = found x (last_of scope.legacy_macros x) refl

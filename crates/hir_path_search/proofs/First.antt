@@ -81,13 +81,16 @@ module _ (is_sought : ModuleDefId → Bool) (ns : Namespace) (maps : Maps) where
   plain-more local all left a names new have covers = record {
     crates = λ x hit. covers.keeps x (have.crates x hit);
     builtins = λ x among. covers.keeps x (have.builtins x among);
-    done = λ more within are. have.done more (λ x has. within x (covers.keeps x has)) (record {
-      keeps = λ x has. none_of has;
-      scope = λ m is x hit. within x (covers.scope m is x hit);
-      textual = λ m is x hit. within x (covers.textual m is x hit);
-      macro_use = λ x hit. within x (covers.macro_use x hit);
-      prelude = λ x hit. within x (covers.prelude x hit);
-    }, are);
+    done = λ more within are. have.done more (λ x has. within x (covers.keeps x has)) (
+      record {
+        keeps = λ x has. none_of has;
+        scope = λ m is x hit. within x (covers.scope m is x hit);
+        textual = λ m is x hit. within x (covers.textual m is x hit);
+        macro_use = λ x hit. within x (covers.macro_use x hit);
+        prelude = λ x hit. within x (covers.prelude x hit);
+      },
+      are,
+    );
   }
 
   pub absolute-none : (local : Local) (all : List Asker) (names : List (List ℕ)) → Adds is_sought ns (map crate_bound local) [] names → HaveAbsolute local all all names
@@ -97,10 +100,13 @@ module _ (is_sought : ModuleDefId → Bool) (ns : Namespace) (maps : Maps) where
       → CoversAbsolute is_sought ns maps a names new → HaveAbsolute local all left new
   absolute-more local all left a names new have covers = record {
     crates = λ x hit. covers.keeps x (have.crates x hit);
-    done = λ more within are. have.done more (λ x has. within x (covers.keeps x has)) (record {
-      keeps = λ x has. none_of has;
-      scope = λ m is x hit. within x (covers.scope m is x hit);
-    }, are);
+    done = λ more within are. have.done more (λ x has. within x (covers.keeps x has)) (
+      record {
+        keeps = λ x has. none_of has;
+        scope = λ m is x hit. within x (covers.scope m is x hit);
+      },
+      are,
+    );
   }
 
   pub behind-none : (all : List Look) (names : List (List ℕ)) → HaveBehind all all names
@@ -130,6 +136,7 @@ module _ (is_sought : ModuleDefId → Bool) (ns : Namespace) (maps : Maps) where
           found : (o : Option BuiltinType) → builtin_named x ≡ o → hits is_sought ns (builtin_bound o) ≡ true → Contains names x
           found None e h = absurd (no_hit is_sought ns nothing refl h)
           found (Some b) e h = builtins x (among-builtins x b e)
+
           by : (hits is_sought ns nothing ≡ true) ⊎ (hits is_sought ns (builtin_bound (builtin_named x)) ≡ true) → Contains names x
           by (inl h) = absurd (no_hit is_sought ns nothing refl h)
           by (inr h) = found (builtin_named x) refl h
@@ -145,18 +152,23 @@ module _ (is_sought : ModuleDefId → Bool) (ns : Namespace) (maps : Maps) where
               same : (o : Option (Item MacroId ImportOrExternCrate)) → keep_fitting None o ≡ o
               same None = refl
               same (Some item) = refl
+
           of_scope : hits is_sought ns (scope_name maps None m x) ≡ true → Contains names x
           of_scope h = scope (ap (hits is_sought ns) (sym (styled (entry_in maps m x))) ∙ h)
+
           either : (hits is_sought ns (scope_name maps None m x) ≡ true) ⊎ (hits is_sought ns (builtin_name m x) ≡ true) → Contains names x
           either (inl h) = of_scope h
           either (inr h) = builtin_hit m x h
+
           other : (hits is_sought ns (builtin_name m x) ≡ true) ⊎ (hits is_sought ns (scope_name maps None m x) ≡ true) → Contains names x
           other (inl h) = builtin_hit m x h
           other (inr h) = of_scope h
+
           whichever : (hits is_sought ns (or_of (builtin_name m x) (scope_name maps None m x)) ≡ true)
               ⊎ (hits is_sought ns (or_of (scope_name maps None m x) (builtin_name m x)) ≡ true) → Contains names x
           whichever (inl h) = other (hits-or is_sought ns (builtin_name m x) (scope_name maps None m x) h)
           whichever (inr h) = either (hits-or is_sought ns (scope_name maps None m x) (builtin_name m x) h)
+
           by : (s : BuiltinShadowMode) → hits is_sought ns (with_builtin s (scope_name maps None m x) (builtin_name m x)) ≡ true → Contains names x
           by shadow_modes.Module h = either (hits-or is_sought ns (scope_name maps None m x) (builtin_name m x) h)
           by shadow_modes.Other h = whichever (hits-either is_sought ns (names_module (scope_name maps None m x).types)
@@ -170,22 +182,26 @@ module _ (is_sought : ModuleDefId → Bool) (ns : Namespace) (maps : Maps) where
         where
           unless : (p : PerNs) → hits is_sought ns (unless_block_root m p) ≡ true → hits is_sought ns p ≡ true
           unless p h = elim (hits-either is_sought ns (is_block_root m) nothing p h) [ inl none ↦ absurd (no_hit is_sought ns nothing refl none) | inr it ↦ it ]
+
           by_own : (hits is_sought ns (legacy_name maps None m x) ≡ true) ⊎ (hits is_sought ns (with_builtin shadow (scope_name maps None m x) (builtin_name m x)) ≡ true)
               → Contains names x
           by_own (inl h) = covers.textual m refl x h
           by_own (inr h) = joined_hit shadow m x (λ it. covers.scope m refl x it) h
+
           by_crates : (hits is_sought ns (or_of (legacy_name maps None m x) (with_builtin shadow (scope_name maps None m x) (builtin_name m x))) ≡ true)
               ⊎ (hits is_sought ns (unless_block_root m (extern_name local x)) ≡ true) → Contains names x
           by_crates (inl h) = by_own (hits-or is_sought ns (legacy_name maps None m x) (with_builtin shadow (scope_name maps None m x) (builtin_name m x)) h)
           by_crates (inr h) = crates x (unless (extern_name local x) h)
+
           by_macros : (hits is_sought ns (or_of (or_of (legacy_name maps None m x) (with_builtin shadow (scope_name maps None m x) (builtin_name m x)))
-                  (unless_block_root m (extern_name local x))) ≡ true)
+              (unless_block_root m (extern_name local x))) ≡ true)
               ⊎ (hits is_sought ns (macro_use_name maps m x) ≡ true) → Contains names x
           by_macros (inl h) = by_crates (hits-or is_sought ns (or_of (legacy_name maps None m x) (with_builtin shadow (scope_name maps None m x) (builtin_name m x)))
               (unless_block_root m (extern_name local x)) h)
           by_macros (inr h) = covers.macro_use x h
+
           by_prelude : (hits is_sought ns (or_of (or_of (or_of (legacy_name maps None m x) (with_builtin shadow (scope_name maps None m x) (builtin_name m x)))
-                  (unless_block_root m (extern_name local x))) (macro_use_name maps m x)) ≡ true)
+              (unless_block_root m (extern_name local x))) (macro_use_name maps m x)) ≡ true)
               ⊎ (hits is_sought ns (unless_block_root m (prelude_name maps m x)) ≡ true) → Contains names x
           by_prelude (inl h) = by_macros (hits-or is_sought ns (or_of (or_of (legacy_name maps None m x) (with_builtin shadow (scope_name maps None m x) (builtin_name m x)))
               (unless_block_root m (extern_name local x))) (macro_use_name maps m x) h)
@@ -198,6 +214,7 @@ module _ (is_sought : ModuleDefId → Bool) (ns : Namespace) (maps : Maps) where
           first : (hits is_sought ns (extern_name local x) ≡ true) ⊎ (hits is_sought ns (macro_use_name maps root x) ≡ true) → Contains names x
           first (inl h) = crates x h
           first (inr h) = covers.macro_use x h
+
           by : (hits is_sought ns (or_of (extern_name local x) (macro_use_name maps root x)) ≡ true) ⊎ (hits is_sought ns (prelude_name maps root x) ≡ true) → Contains names x
           by (inl h) = first (hits-or is_sought ns (extern_name local x) (macro_use_name maps root x) h)
           by (inr h) = covers.prelude x h
@@ -216,7 +233,7 @@ module _ (is_sought : ModuleDefId → Bool) (ns : Namespace) (maps : Maps) where
               → (hits is_sought ns (name_in_module maps local None shadow_modes.Other m x) ≡ true) ⊎ (hits is_sought ns (name_in_module maps local None shadow_modes.Other m x) ≡ false)
               → Contains names x
               ⊎ (IsNoWay (first_look maps local kinds.Plain x (askers.Module m))
-                  × NoHit is_sought ns (whole_items (asked_of maps (by_other local shadow_modes.Other None) (askers.Module m) kinds.Plain (x ∷ []))))
+              × NoHit is_sought ns (whole_items (asked_of maps (by_other local shadow_modes.Other None) (askers.Module m) kinds.Plain (x ∷ []))))
           by (inl h) either = inl (module_hit m covers shadow_modes.Module x h)
           by (inr miss) (inl h) = inl (module_hit m covers shadow_modes.Other x h)
           by (inr miss) (inr out) = inr (
@@ -228,7 +245,7 @@ module _ (is_sought : ModuleDefId → Bool) (ns : Namespace) (maps : Maps) where
           by : (hits is_sought ns (name_in_preludes maps local root x) ≡ true) ⊎ (hits is_sought ns (name_in_preludes maps local root x) ≡ false)
               → Contains names x
               ⊎ (IsNoWay (first_look maps local kinds.Plain x (askers.Preludes root))
-                  × NoHit is_sought ns (whole_items (asked_of maps (by_other local shadow_modes.Other None) (askers.Preludes root) kinds.Plain (x ∷ []))))
+              × NoHit is_sought ns (whole_items (asked_of maps (by_other local shadow_modes.Other None) (askers.Preludes root) kinds.Plain (x ∷ []))))
           by (inl h) = inl (preludes_hit root covers x h)
           by (inr miss) = inr (
             no_way-of is_sought ns maps root (name_in_preludes maps local root x) miss,
@@ -265,15 +282,18 @@ module _ (is_sought : ModuleDefId → Bool) (ns : Namespace) (maps : Maps) where
         in_edition : (b : Bool) → hits is_sought ns (name_in_crate_root_or_extern_prelude maps local m x) ≡ false → hits is_sought ns (extern_name local x) ≡ false
             → IsNoWay (comes_to maps m (cond b (name_in_crate_root_or_extern_prelude maps local m x) (extern_name local x)).types)
             × NoHit is_sought ns (whole_items (cond b (resolved (name_in_crate_root_or_extern_prelude maps local m x))
-                (cond (is_some (extern_name local x).types) (resolved (extern_name local x)) (unresolved No))))
-        in_edition true miss out = (no_way-of is_sought ns maps m (name_in_crate_root_or_extern_prelude maps local m x) miss,
-            inr (name_in_crate_root_or_extern_prelude maps local m x, refl, miss))
+            (cond (is_some (extern_name local x).types) (resolved (extern_name local x)) (unresolved No))))
+        in_edition true miss out = (
+          no_way-of is_sought ns maps m (name_in_crate_root_or_extern_prelude maps local m x) miss,
+          inr (name_in_crate_root_or_extern_prelude maps local m x, refl, miss),
+        )
         in_edition false miss out = (no_way-of is_sought ns maps m (extern_name local x) out, crates_alone (extern_name local x) out)
+
         by : (hits is_sought ns (name_in_crate_root_or_extern_prelude maps local m x) ≡ true) ⊎ (hits is_sought ns (name_in_crate_root_or_extern_prelude maps local m x) ≡ false)
             → (hits is_sought ns (extern_name local x) ≡ true) ⊎ (hits is_sought ns (extern_name local x) ≡ false)
             → Contains names x
             ⊎ (IsNoWay (first_look maps local kinds.Abs x (askers.Module m))
-                × NoHit is_sought ns (whole_items (asked_of maps (by_other local shadow_modes.Other None) (askers.Module m) kinds.Abs (x ∷ []))))
+            × NoHit is_sought ns (whole_items (asked_of maps (by_other local shadow_modes.Other None) (askers.Module m) kinds.Abs (x ∷ []))))
         by (inl h) either = inl (root_hit m covers x h)
         by (inr miss) (inl h) = inl (crates x h)
         by (inr miss) (inr out) = inr (in_edition (is_in_edition_2015 (map_in maps m.map)) miss out)
@@ -283,10 +303,11 @@ module _ (is_sought : ModuleDefId → Bool) (ns : Namespace) (maps : Maps) where
             → NoHit is_sought ns (whole_items (cond b (resolved (extern_name local x)) (cond (is_some (extern_name local x).types) (resolved (extern_name local x)) (unresolved No))))
         in_edition true out = inr (extern_name local x, refl, out)
         in_edition false out = crates_alone (extern_name local x) out
+
         by : (hits is_sought ns (extern_name local x) ≡ true) ⊎ (hits is_sought ns (extern_name local x) ≡ false)
             → Contains names x
             ⊎ (IsNoWay (first_look maps local kinds.Abs x (askers.Preludes root))
-                × NoHit is_sought ns (whole_items (asked_of maps (by_other local shadow_modes.Other None) (askers.Preludes root) kinds.Abs (x ∷ []))))
+            × NoHit is_sought ns (whole_items (asked_of maps (by_other local shadow_modes.Other None) (askers.Preludes root) kinds.Abs (x ∷ []))))
         by (inl h) = inl (crates x h)
         by (inr out) = inr (no_way-of is_sought ns maps root (extern_name local x) out, in_edition (is_in_edition_2015 (map_in maps root.map)) out)
 

@@ -76,8 +76,8 @@ module _ (whole ways : Answers) (is_sought : ModuleDefId → Bool) (ns : Namespa
         names = these i;
       } in
       let found : ending_of is_sought ns name (whole (name ∷ [])) ≡ Some (last_name name ends.named.imported) =
-          ap (ending_of is_sought ns name) answered ∙ ap (λ named. ending_named name (sought_named is_sought named)) ends.is
-          ∙ ap (λ (b : Bool). ending_named name (cond b (Some ends.named) None)) ends.sought in
+      ap (ending_of is_sought ns name) answered ∙ ap (λ named. ending_named name (sought_named is_sought named)) ends.is
+      ∙ ap (λ (b : Bool). ending_named name (cond b (Some ends.named) None)) ends.sought in
       subst (λ (best : Option EndingValue). IsNoWorse best e) (sym found)
       (ap (λ (v : EndingValue). precedes v (last_name name ends.named.imported)) same ∙ ap is_lt (tied_itself ending_total (last_name name ends.named.imported)))
 
@@ -109,6 +109,7 @@ module _ (maps : Maps) (whole ways : Answers) (is_sought : ModuleDefId → Bool)
           → IsAmong names name ⊎ IsNoWorse None e
       first name e these ends (inl has) = inl (among_from_contains names name has)
       first name e these ends (inr misses) = absurd (misses.unsought e ends these)
+
       complete : (name : List ℕ) → Contains names name ⊎ Misses whole ways is_sought ns name → IsAmong names name ⊎ (HasStep [] name ⊎ LeadsNowhere whole name)
       complete name (inl has) = inl (among_from_contains names name has)
       complete name (inr misses) = inr (inr misses.nowhere)
@@ -119,9 +120,9 @@ module _ (maps : Maps) (whole ways : Answers) (is_sought : ModuleDefId → Bool)
     met_steps name old new None e same are = subst (AreSteps maps whole ways) (sym same) are
     met_steps name old new (Some looks) e (step, to, same) are =
         let from : (answers : Answers) → ((y : List ℕ) (w : List (List ℕ)) → answers (name ∷ y ∷ w) ≡ answered_from maps (next name) (y ∷ w))
-            → (y : List ℕ) (w : List (List ℕ)) → answers (step.name ∷ y ∷ w) ≡ behind_all maps step.looks.items (y ∷ w) =
-            λ answers lead y w. ap (λ n. answers (n ∷ y ∷ w)) to.named ∙ lead y w ∙ ap (λ o. answered_from maps o (y ∷ w)) e
-                ∙ ap (λ ls. behind_all maps ls (y ∷ w)) (sym to.to) in
+        → (y : List ℕ) (w : List (List ℕ)) → answers (step.name ∷ y ∷ w) ≡ behind_all maps step.looks.items (y ∷ w) =
+        λ answers lead y w. ap (λ n. answers (n ∷ y ∷ w)) to.named ∙ lead y w ∙ ap (λ o. answered_from maps o (y ∷ w)) e
+        ∙ ap (λ ls. behind_all maps ls (y ∷ w)) (sym to.to) in
         let is : IsStep maps whole ways step = record {
           is_private = to.is_private ∙ ap (λ n. is_private_way (type_of (ways (n ∷ [])))) (sym to.named);
           is_imported = to.is_imported ∙ ap (λ n. is_imported_way (type_of (ways (n ∷ [])))) (sym to.named);
@@ -160,6 +161,7 @@ module _ (maps : Maps) (whole ways : Answers) (is_sought : ModuleDefId → Bool)
         first n e these ends (inl (inl here)) = inr (subst (λ best. IsNoWorse best e) (sym by_ending)
             (no_worse-new ending (ending_of is_sought ns name (whole (name ∷ []))) e
             (ending_of-first whole ways is_sought ns name e (these ∙ ap (λ x. x ∷ []) (sym here)) ends)))
+
         complete : (n : List ℕ) → IsAmong (name ∷ left) n ⊎ (HasStep steps n ⊎ LeadsNowhere whole n) → IsAmong left n ⊎ (HasStep new_steps n ⊎ LeadsNowhere whole n)
         complete n (inl (inl here)) = inr (met_new name n steps new_steps (next name) refl by_step here)
         complete n (inl (inr among)) = inl among
@@ -176,6 +178,7 @@ module _ (maps : Maps) (whole ways : Answers) (is_sought : ModuleDefId → Bool)
       last : (e : EndingValue) (name : List ℕ) → IsAmong [] name ⊎ IsNoWorse next.ending e → IsNoWorse next.ending e
       last e name (inl none) = absurd none
       last e name (inr late) = late
+
       first : (e : EndingValue) → Ends whole ways is_sought ns 1 e → (names : List (List ℕ)) → e.names ≡ names → IsNoWorse next.ending e
       first e ends [] none = absurd (short (sym (ap length none) ∙ ends.long))
         where
@@ -186,6 +189,7 @@ module _ (maps : Maps) (whole ways : Answers) (is_sought : ModuleDefId → Bool)
         where
           long : suc (suc (length w)) ≡ suc zero → ⊥
           long same = omega (arith, same)
+
       complete : (name : List ℕ) → IsAmong [] name ⊎ (HasStep next.steps.items name ⊎ LeadsNowhere whole name) → HasStep next.steps.items name ⊎ LeadsNowhere whole name
       complete name (inl none) = absurd none
       complete name (inr known) = known

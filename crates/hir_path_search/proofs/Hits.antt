@@ -78,9 +78,11 @@ module _ (is_sought : ModuleDefId → Bool) (ns : Namespace) where
       sought : (is_sought_by is_sought (named_in ns a) ≡ true) ⊎ (is_sought_by is_sought (named_in ns b) ≡ true) → (hits is_sought ns a ≡ true) ⊎ (hits is_sought ns b ≡ true)
       sought (inl h) = inl (or_left (is_sought_by is_sought (named_in ns a)) (type_leads_on a.types) h)
       sought (inr h) = inr (or_left (is_sought_by is_sought (named_in ns b)) (type_leads_on b.types) h)
+
       leads : (type_leads_on a.types ≡ true) ⊎ (type_leads_on b.types ≡ true) → (hits is_sought ns a ≡ true) ⊎ (hits is_sought ns b ≡ true)
       leads (inl h) = inl (or_right (is_sought_by is_sought (named_in ns a)) (type_leads_on a.types) h)
       leads (inr h) = inr (or_right (is_sought_by is_sought (named_in ns b)) (type_leads_on b.types) h)
+
       by : (is_sought_by is_sought (named_in ns (or_of a b)) ≡ true) ⊎ (type_leads_on (or_of a b).types ≡ true) → (hits is_sought ns a ≡ true) ⊎ (hits is_sought ns b ≡ true)
       by (inl h) = sought (sought_of_two ns a b h)
       by (inr h) = leads (leads_of_two a b h)
@@ -92,6 +94,7 @@ module _ (is_sought : ModuleDefId → Bool) (ns : Namespace) where
       kept : (b : Bool) (item : Item ModuleDefId ImportOrExternCrate) → is_sought_by is_sought (named_by (λ def. def) (cond b (Some item) None)) ≡ true → is_sought item.def ≡ true
       kept true item h = h
       kept false item h = absurd (true≢false (sym h))
+
       by : (o : Option (Item ModuleDefId ImportOrExternCrate)) → p.types ≡ o → is_sought_by is_sought (named_by (λ def. def) (keep_item keep o)) ≡ true → is_sought_by is_sought (named_by (λ def. def) p.types) ≡ true
       by None q h = absurd (true≢false (sym h))
       by (Some item) q h = ap (λ o. is_sought_by is_sought (named_by (λ def. def) o)) q ∙ kept (keep item.vis) item h
@@ -100,6 +103,7 @@ module _ (is_sought : ModuleDefId → Bool) (ns : Namespace) where
       kept : (b : Bool) (item : Item ModuleDefId ImportOrGlob) → is_sought_by is_sought (named_by (λ def. def) (cond b (Some item) None)) ≡ true → is_sought item.def ≡ true
       kept true item h = h
       kept false item h = absurd (true≢false (sym h))
+
       by : (o : Option (Item ModuleDefId ImportOrGlob)) → p.values ≡ o → is_sought_by is_sought (named_by (λ def. def) (keep_item keep o)) ≡ true → is_sought_by is_sought (named_by (λ def. def) p.values) ≡ true
       by None q h = absurd (true≢false (sym h))
       by (Some item) q h = ap (λ o. is_sought_by is_sought (named_by (λ def. def) o)) q ∙ kept (keep item.vis) item h
@@ -108,6 +112,7 @@ module _ (is_sought : ModuleDefId → Bool) (ns : Namespace) where
       kept : (b : Bool) (item : Item MacroId ImportOrExternCrate) → is_sought_by is_sought (named_by (λ makro. definitions.MacroId makro) (cond b (Some item) None)) ≡ true → is_sought (definitions.MacroId item.def) ≡ true
       kept true item h = h
       kept false item h = absurd (true≢false (sym h))
+
       by : (o : Option (Item MacroId ImportOrExternCrate)) → p.macros ≡ o → is_sought_by is_sought (named_by (λ makro. definitions.MacroId makro) (keep_item keep o)) ≡ true
           → is_sought_by is_sought (named_by (λ makro. definitions.MacroId makro) p.macros) ≡ true
       by None q h = absurd (true≢false (sym h))
@@ -119,6 +124,7 @@ module _ (is_sought : ModuleDefId → Bool) (ns : Namespace) where
       kept : (b : Bool) (item : Item ModuleDefId ImportOrExternCrate) → type_leads_on (cond b (Some item) None) ≡ true → leads_on item.def ≡ true
       kept true item h = h
       kept false item h = absurd (true≢false (sym h))
+
       by : (o : Option (Item ModuleDefId ImportOrExternCrate)) → p.types ≡ o → type_leads_on (keep_item keep o) ≡ true → type_leads_on p.types ≡ true
       by None q h = absurd (true≢false (sym h))
       by (Some item) q h = ap type_leads_on q ∙ kept (keep item.vis) item h
@@ -146,6 +152,7 @@ module _ (is_sought : ModuleDefId → Bool) (ns : Namespace) where
       found : (b : Bool) (n : Named) → is_sought n.def ≡ b → cond b (Some n) None ≡ Some named → is_sought n.def ≡ true
       found true n is same = is
       found false n is same = absurd (true≢false (sym (ap is_some same)))
+
       by : (o : Option Named) → named_in ns items ≡ o → sought_named is_sought o ≡ Some named → hits is_sought ns items ≡ true
       by None is same = absurd (true≢false (sym (ap is_some same)))
       by (Some n) is same = hits-sought items n is (found (is_sought n.def) n refl same)

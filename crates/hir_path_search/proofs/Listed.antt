@@ -109,16 +109,19 @@ among-entries scope name = by_types (item_at scope.types name) refl
   where
     listed : IsAmong (scope_names scope) name → IsAmong (entries_of scope) (name, binding_of scope name)
     listed h = among-map (λ n. (n, binding_of scope n)) (scope_names scope) name h
+
     by_macros : (o : Option (Item MacroId ImportOrExternCrate)) → item_at scope.macros name ≡ o → item_at scope.types name ≡ None → item_at scope.values name ≡ None
         → (binding_of scope name ≡ nothing) ⊎ IsAmong (entries_of scope) (name, binding_of scope name)
     by_macros None m t v = inl (λ i. record { types = t i; values = v i; macros = m i })
     by_macros (Some item) m t v = inr (listed (among-merge_right (merge (slice_cmp nat_cmp) (keys_of scope.types) (keys_of scope.values)) (merge (slice_cmp nat_cmp) (keys_of scope.macros) scope.unresolved) name
         (among-merge_left (keys_of scope.macros) scope.unresolved name (among-keys scope.macros name item m))))
+
     by_values : (o : Option (Item ModuleDefId ImportOrGlob)) → item_at scope.values name ≡ o → item_at scope.types name ≡ None
         → (binding_of scope name ≡ nothing) ⊎ IsAmong (entries_of scope) (name, binding_of scope name)
     by_values None v t = by_macros (item_at scope.macros name) refl t v
     by_values (Some item) v t = inr (listed (among-merge_left (merge (slice_cmp nat_cmp) (keys_of scope.types) (keys_of scope.values)) (merge (slice_cmp nat_cmp) (keys_of scope.macros) scope.unresolved) name
         (among-merge_right (keys_of scope.types) (keys_of scope.values) name (among-keys scope.values name item v))))
+
     by_types : (o : Option (Item ModuleDefId ImportOrExternCrate)) → item_at scope.types name ≡ o → (binding_of scope name ≡ nothing) ⊎ IsAmong (entries_of scope) (name, binding_of scope name)
     by_types None t = by_values (item_at scope.values name) refl t
     by_types (Some item) t = inr (listed (among-merge_left (merge (slice_cmp nat_cmp) (keys_of scope.types) (keys_of scope.values)) (merge (slice_cmp nat_cmp) (keys_of scope.macros) scope.unresolved) name

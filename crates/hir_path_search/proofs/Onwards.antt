@@ -46,9 +46,9 @@ IsUnnumbered maps names = (asks : ModuleId) (i j : ℕ) (now : PerNs) → whole_
 module _ (maps : Maps) (x : List ℕ) (names : List (List ℕ)) (further : IsUnnumbered maps names) (asks : ModuleId) (i j : ℕ) where
   number_in_module : (m : ModuleId) (same : Bool)
       → whole_items (cond same (rest maps asks names (i + 1) (seen maps asks m x)) (crossing (rest maps (nearest_non_block_module maps m) names (i + 1)
-          (seen maps (nearest_non_block_module maps m) (nearest_non_block_module maps m) x))))
+      (seen maps (nearest_non_block_module maps m) (nearest_non_block_module maps m) x))))
       ≡ whole_items (cond same (rest maps asks names (j + 1) (seen maps asks m x)) (crossing (rest maps (nearest_non_block_module maps m) names (j + 1)
-          (seen maps (nearest_non_block_module maps m) (nearest_non_block_module maps m) x))))
+      (seen maps (nearest_non_block_module maps m) (nearest_non_block_module maps m) x))))
   number_in_module m true = further asks (i + 1) (j + 1) (seen maps asks m x)
   number_in_module m false = further (nearest_non_block_module maps m) (i + 1) (j + 1) (seen maps (nearest_non_block_module maps m) (nearest_non_block_module maps m) x)
 
@@ -92,22 +92,25 @@ whole-onward maps asks i now x names = by_type now.types
   where
     entered : (m : ModuleId) → whole_items (rest maps m names 1 (seen maps m m x)) ≡ behind maps (record { asks = m; parent = parents.Module m }) (x ∷ names)
     entered m = sym (ap (λ (same : Bool). whole_items (cond same (rest maps m names 1 (seen maps m m x)) (crossing (rest maps (nearest_non_block_module maps m) names 1
-            (seen maps (nearest_non_block_module maps m) (nearest_non_block_module maps m) x))))) (same_itself m.map.krate))
+        (seen maps (nearest_non_block_module maps m) (nearest_non_block_module maps m) x))))) (same_itself m.map.krate))
+
     in_module : (m : ModuleId) (same : Bool) → same_crate m.map.krate asks.map.krate ≡ same
         → whole_items (cond same (rest maps asks names (i + 1) (seen maps asks m x)) (crossing (rest maps (nearest_non_block_module maps m) names (i + 1)
-            (seen maps (nearest_non_block_module maps m) (nearest_non_block_module maps m) x))))
+        (seen maps (nearest_non_block_module maps m) (nearest_non_block_module maps m) x))))
         ≡ behind maps (cond same (record { asks = asks; parent = parents.Module m })
-            (record { asks = nearest_non_block_module maps m; parent = parents.Module (nearest_non_block_module maps m) })) (x ∷ names)
+        (record { asks = nearest_non_block_module maps m; parent = parents.Module (nearest_non_block_module maps m) })) (x ∷ names)
     in_module m true e = whole-started maps names asks (i + 1) 1 (seen maps asks m x)
         ∙ sym (ap (λ (same : Bool). whole_items (cond same (rest maps asks names 1 (seen maps asks m x)) (crossing (rest maps (nearest_non_block_module maps m) names 1
-            (seen maps (nearest_non_block_module maps m) (nearest_non_block_module maps m) x))))) e)
+        (seen maps (nearest_non_block_module maps m) (nearest_non_block_module maps m) x))))) e)
     in_module m false e =
         whole-started maps names (nearest_non_block_module maps m) (i + 1) 1 (seen maps (nearest_non_block_module maps m) (nearest_non_block_module maps m) x)
         ∙ entered (nearest_non_block_module maps m)
+
     in_enum : (item : Item ModuleDefId ImportOrExternCrate) (other : Item ModuleDefId ImportOrExternCrate) (v : Option EnumVariant) → item.vis ≡ other.vis
         → whole_items (after_enum names i item v) ≡ whole_items (after_enum names 0 other v)
     in_enum item other None e = refl
     in_enum item other (Some v) e = ap (λ (vis : Visibility). whole_items (after_enum names 0 (record item { vis = vis }) (Some v))) e
+
     by_def : (item : Item ModuleDefId ImportOrExternCrate) (def : ModuleDefId)
         → whole_items (through (λ next_from next. rest maps next_from names (i + 1) next) maps asks names i x item def)
         ≡ answer_after maps (comes_to_by maps asks item def) (x ∷ names)
@@ -117,6 +120,7 @@ whole-onward maps asks i now x names = by_type now.types
     by_def item (definitions.AdtId (adts.StructId id)) = refl
     by_def item (definitions.AdtId (adts.UnionId id)) = refl
     by_def item _ = refl
+
     by_type : (types : Option (Item ModuleDefId ImportOrExternCrate))
         → whole_items (through_type (λ next_from next. rest maps next_from names (i + 1) next) maps asks names i x types)
         ≡ answer_after maps (comes_to maps asks types) (x ∷ names)
@@ -130,15 +134,17 @@ behind-onward maps look name x names = by_parent look.parent
   where
     in_module : (m : ModuleId) (same : Bool)
         → whole_items (cond same (rest maps look.asks (x ∷ names) 1 (seen maps look.asks m name)) (crossing (rest maps (nearest_non_block_module maps m) (x ∷ names) 1
-            (seen maps (nearest_non_block_module maps m) (nearest_non_block_module maps m) name))))
+        (seen maps (nearest_non_block_module maps m) (nearest_non_block_module maps m) name))))
         ≡ answer_after maps (cond same (comes_to maps look.asks (seen maps look.asks m name).types)
-            (comes_to maps (nearest_non_block_module maps m) (seen maps (nearest_non_block_module maps m) (nearest_non_block_module maps m) name).types)) (x ∷ names)
+        (comes_to maps (nearest_non_block_module maps m) (seen maps (nearest_non_block_module maps m) (nearest_non_block_module maps m) name).types)) (x ∷ names)
     in_module m true = whole-onward maps look.asks 1 (seen maps look.asks m name) x names
     in_module m false = whole-onward maps (nearest_non_block_module maps m) 1 (seen maps (nearest_non_block_module maps m) (nearest_non_block_module maps m) name) x names
+
     in_enum : (item : Item ModuleDefId ImportOrExternCrate) (v : Option EnumVariant)
         → whole_items (after_enum (x ∷ names) 0 item v) ≡ answer_after maps (past_variant v) (x ∷ names)
     in_enum item None = refl
     in_enum item (Some v) = refl
+
     by_parent : (parent : Parent) → behind maps (record { asks = look.asks; parent = parent }) (name ∷ x ∷ names)
         ≡ answer_after maps (next_of maps look.asks name parent) (x ∷ names)
     by_parent (parents.Module m) = in_module m (same_crate m.map.krate look.asks.map.krate)

@@ -28,6 +28,7 @@ all-lookup {K} {V} Is test (entry ∷ es) v all e = by (test entry.0) refl (all-
   where
     inside : {a b : V} → Some a ≡ Some b → a ≡ b
     inside {a} {b} same = ap (λ (s : Option V). elim s as (λ _. V) [ Some w ↦ w | None ↦ a ]) same
+
     by : (b : Bool) → test entry.0 ≡ b → (lookup test es ≡ Some v → (k : K) × (test k ≡ true) × Is k v) → cond b (Some entry.1) (lookup test es) ≡ Some v
         → (k : K) × (test k ≡ true) × Is k v
     by true at more found = (entry.0, at, subst (Is entry.0) (inside found) all.0)

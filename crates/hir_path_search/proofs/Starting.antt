@@ -135,12 +135,14 @@ module _ (is_sought : ModuleDefId → Bool) (ns : Namespace) where
       in_module : (m : ModuleId) (same : Bool)
           → hits is_sought ns (cond same (seen maps look.asks m name) (seen maps (nearest_non_block_module maps m) (nearest_non_block_module maps m) name)) ≡ false
           → IsNoWay (cond same (comes_to maps look.asks (seen maps look.asks m name).types)
-              (comes_to maps (nearest_non_block_module maps m) (seen maps (nearest_non_block_module maps m) (nearest_non_block_module maps m) name).types))
+          (comes_to maps (nearest_non_block_module maps m) (seen maps (nearest_non_block_module maps m) (nearest_non_block_module maps m) name).types))
       in_module m true out = no_way-of maps look.asks (seen maps look.asks m name) out
       in_module m false out = no_way-of maps (nearest_non_block_module maps m) (seen maps (nearest_non_block_module maps m) (nearest_non_block_module maps m) name) out
+
       in_enum : (v : Option EnumVariant) → IsNoWay (past_variant v)
       in_enum None = no_way-stopped
       in_enum (Some v) = no_way-nowhere
+
       by : (parent : Parent) → hits is_sought ns (items_of_parent maps look.asks parent name) ≡ false → IsNoWay (next_of maps look.asks name parent)
       by (parents.Module m) out = in_module m (same_crate m.map.krate look.asks.map.krate) out
       by (parents.Enum id vis) out = in_enum (variant_in maps id name)
@@ -151,12 +153,14 @@ module _ (is_sought : ModuleDefId → Bool) (ns : Namespace) where
       in_module : (m : ModuleId) (same : Bool)
           → hits is_sought ns (cond same (seen maps look.asks m name) (seen maps (nearest_non_block_module maps m) (nearest_non_block_module maps m) name)) ≡ false
           → NoHit (whole_items (cond same (resolved (seen maps look.asks m name))
-              (crossing (resolved (seen maps (nearest_non_block_module maps m) (nearest_non_block_module maps m) name)))))
+          (crossing (resolved (seen maps (nearest_non_block_module maps m) (nearest_non_block_module maps m) name)))))
       in_module m true out = inr (seen maps look.asks m name, refl, out)
       in_module m false out = inr (seen maps (nearest_non_block_module maps m) (nearest_non_block_module maps m) name, refl, out)
+
       in_enum : (item : Item ModuleDefId ImportOrExternCrate) (v : Option EnumVariant) → hits is_sought ns (variant_items item.vis v) ≡ false → NoHit (whole_items (after_enum [] 0 item v))
       in_enum item None out = inl refl
       in_enum item (Some v) out = inr (variant_items item.vis (Some v), refl, out)
+
       by : (parent : Parent) → hits is_sought ns (items_of_parent maps look.asks parent name) ≡ false
           → NoHit (behind maps (record { asks = look.asks; parent = parent }) (name ∷ []))
       by (parents.Module m) out = in_module m (same_crate m.map.krate look.asks.map.krate) out
@@ -215,7 +219,7 @@ module _ (is_sought : ModuleDefId → Bool) (ns : Namespace) where
     AreFirst [] names = Unit {0}
     AreFirst (a ∷ others) names =
         ((name : List ℕ) → Contains names name
-            ⊎ (IsNoWay (first_look maps local kind name a) × NoHit (whole_items (asked_of maps (by_other local shadow_modes.Other None) a kind (name ∷ [])))))
+        ⊎ (IsNoWay (first_look maps local kind name a) × NoHit (whole_items (asked_of maps (by_other local shadow_modes.Other None) a kind (name ∷ [])))))
         × AreFirst others names
 
     decide_first : (askers : List Asker) (names : List (List ℕ)) → AreFirst askers names → (name : List ℕ) → Contains names name ⊎ MissFirst askers name

@@ -33,9 +33,9 @@ fronts-alike f g same (x ∷ []) = refl
 fronts-alike f g same (x ∷ y ∷ w) =
     let first : f (x ∷ []) ≡ g (x ∷ []) = same x [] in
     let others : map f (map (λ front. x ∷ front) (fronts (y ∷ w))) ≡ map g (map (λ front. x ∷ front) (fronts (y ∷ w))) =
-        map_twice f (λ front. x ∷ front) (fronts (y ∷ w))
-        ∙ fronts-alike (λ front. f (x ∷ front)) (λ front. g (x ∷ front)) (λ z v. same x (z ∷ v)) (y ∷ w)
-        ∙ sym (map_twice g (λ front. x ∷ front) (fronts (y ∷ w))) in
+    map_twice f (λ front. x ∷ front) (fronts (y ∷ w))
+    ∙ fronts-alike (λ front. f (x ∷ front)) (λ front. g (x ∷ front)) (λ z v. same x (z ∷ v)) (y ∷ w)
+    ∙ sym (map_twice g (λ front. x ∷ front) (fronts (y ∷ w))) in
     λ i. first i ∷ others i
 
 -- what is answered to names behind one more
@@ -80,6 +80,7 @@ module _ (is_sought : ModuleDefId → Bool) (ns : Namespace) where
     where
       none : 0 ≡ suc n → ⊥
       none same = omega (arith, same)
+
       same : (names : List (List ℕ)) → length names ≡ suc n → whole names ≡ other_whole names
       same [] long = absurd (none long)
       same (y ∷ w) long = same_whole y w
@@ -131,20 +132,23 @@ module _ (is_sought : ModuleDefId → Bool) (ns : Namespace) where
           names = y ∷ w;
         } in
         let privates : e.privates ≡ and_one private b.privates =
-            ends.privates ∙ ap (λ names. count_of is_private_way (ways_by ways names)) these ∙ sym (privates-through y w b.privates refl) in
+        ends.privates ∙ ap (λ names. count_of is_private_way (ways_by ways names)) these ∙ sym (privates-through y w b.privates refl) in
         let imports : e.imports ≡ and_one imported b.imports =
-            ends.imports ∙ ap (λ names. and_one ends.named.imported (count_of is_imported_way (ways_by ways names))) these
-            ∙ sym (imports-through y w ends.named.imported b.imports refl) in
-        (b, (record {
-          items = ends.items;
-          answered = sym (whole_on y w) ∙ sym (ap whole these) ∙ ends.answered;
-          named = ends.named;
-          is = ends.is;
-          sought = ends.sought;
-          long = length-behind (sym (ap length these) ∙ ends.long);
-          privates = refl;
-          imports = refl;
-        }), (λ i. record { privates = privates i; imports = imports i; names = these i }))
+        ends.imports ∙ ap (λ names. and_one ends.named.imported (count_of is_imported_way (ways_by ways names))) these
+        ∙ sym (imports-through y w ends.named.imported b.imports refl) in (
+          b,
+          (record {
+            items = ends.items;
+            answered = sym (whole_on y w) ∙ sym (ap whole these) ∙ ends.answered;
+            named = ends.named;
+            is = ends.is;
+            sought = ends.sought;
+            long = length-behind (sym (ap length these) ∙ ends.long);
+            privates = refl;
+            imports = refl;
+          }),
+          (λ i. record { privates = privates i; imports = imports i; names = these i }),
+        )
       where
         length-behind : {n : ℕ} → suc (length (y ∷ w)) ≡ suc (suc n) → length (y ∷ w) ≡ suc n
         length-behind e = omega (arith, e)
@@ -167,6 +171,7 @@ module _ (is_sought : ModuleDefId → Bool) (ns : Namespace) where
     where
       same_items : {items : PerNs} → Some nothing ≡ Some items → nothing ≡ items
       same_items {items} same = ap (λ (s : Option PerNs). elim s as (λ _. PerNs) [ Some v ↦ v | None ↦ nothing ]) same
+
       no_named : {named : Named} → None ≡ Some named → ⊥
       no_named same = cc
 
@@ -219,7 +224,7 @@ module _ (is_sought : ModuleDefId → Bool) (ns : Namespace) (maps : Maps) (n : 
           let these : e.names ≡ step.name ∷ y ∷ others = names ∙ ap (λ name. name ∷ y ∷ others) (sym here) in
           let b = ends-before is_sought ns whole ways further step.name step.private step.imported is.is_private is.is_imported is.whole_on is.ways_on e y others these ends in
           let late : precedes (after_name step.name step.private step.imported b.0) (after_name step.name step.private step.imported found) ≡ false =
-              no_worse-after step.name step.private step.imported b.0 found (least.first b.0 b.1) in
+          no_worse-after step.name step.private step.imported b.0 found (least.first b.0 b.1) in
           inr (no_worse-new best (Some (after_name step.name step.private step.imported found)) e
           (ap (λ (v : EndingValue). precedes v (after_name step.name step.private step.imported found)) b.2 ∙ late))
 

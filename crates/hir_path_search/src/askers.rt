@@ -129,10 +129,18 @@ impl Asker {
     {
         match kind {
             PathKind::Plain => {
-                comes_to(maps, self.asks_on(), self.plain_items(maps, local, name).types)
+                comes_to(
+                    maps,
+                    self.asks_on(),
+                    self.plain_items(maps, local, name).types,
+                )
             }
             PathKind::Abs => {
-                comes_to(maps, self.asks_on(), self.absolute_items(maps, local, name).types)
+                comes_to(
+                    maps,
+                    self.asks_on(),
+                    self.absolute_items(maps, local, name).types,
+                )
             }
             PathKind::Crate | PathKind::Super(_) | PathKind::DollarCrate(_) => Onward::Nowhere,
         }

@@ -331,12 +331,7 @@ impl<S: Sought> PathSearch<'_, S> {
     }
 
     /// Adds the names that may come after an enum.
-    fn add_enum(
-        &self,
-        alloc: Global,
-        names: &mut Vec<Name>,
-        id: EnumId,
-    ) -> Result<(), AllocError>
+    fn add_enum(&self, alloc: Global, names: &mut Vec<Name>, id: EnumId) -> Result<(), AllocError>
         ensures value { OnOk result (CoversEnum (S.is_sought self.now.sought.now) self.now.namespace (maps_of self.now.maps) id names.old.items names.new.items) }
     {
         let Some(map) = self.maps.map(id.loc.container.map) else {
@@ -366,12 +361,7 @@ impl<S: Sought> PathSearch<'_, S> {
     }
 
     /// Adds the names that may come after what a path has come to.
-    fn add_behind(
-        &self,
-        alloc: Global,
-        names: &mut Vec<Name>,
-        look: Look,
-    ) -> Result<(), AllocError>
+    fn add_behind(&self, alloc: Global, names: &mut Vec<Name>, look: Look) -> Result<(), AllocError>
         ensures value { OnOk result (Covers (S.is_sought self.now.sought.now) self.now.namespace (items_behind (maps_of self.now.maps) look) names.old.items names.new.items) }
     {
         match look.parent {
@@ -392,11 +382,7 @@ impl<S: Sought> PathSearch<'_, S> {
     }
 
     /// The names that may come after what a path has come to.
-    pub fn candidates_behind(
-        &self,
-        alloc: Global,
-        looks: &[Look],
-    ) -> Result<Vec<Name>, AllocError>
+    pub fn candidates_behind(&self, alloc: Global, looks: &[Look]) -> Result<Vec<Name>, AllocError>
         ensures value { IfOk result (λ names. AreCandidates (behind_all (maps_of self.now.maps) looks.now) (behind_all (maps_of self.now.maps) looks.now)
             (S.is_sought self.now.sought.now) self.now.namespace names.items) }
     {

@@ -8,6 +8,7 @@
 //! (`Look`), one for each map whose answer counts: more than one only inside blocks. Whatever comes after depends on nothing
 //! else, so the best ending of so many segments is found once for each such list, and so are the names that lead on from it.
 #![tactic(auto)]
+
 ghost use Rattle.std.specs.Prelude.{◌≡◌, true};
 
 mod askers;

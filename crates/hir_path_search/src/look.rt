@@ -144,7 +144,11 @@ fn next_look(maps: &DefMaps<'_>, look: Look, name: &Name) -> Onward
 }
 
 /// What has been come to, and first this.
-pub fn with_look(alloc: Global, first: Onward, others: Option<Vec<Look>>) -> Result<Option<Vec<Look>>, AllocError>
+pub fn with_look(
+    alloc: Global,
+    first: Onward,
+    others: Option<Vec<Look>>,
+) -> Result<Option<Vec<Look>>, AllocError>
     ensures value { IfOk result (λ looks. option_map (λ v. v.items) looks ≡ with_look first (option_map (λ v. v.items) others)) }
 {
     let Some(others) = others else {

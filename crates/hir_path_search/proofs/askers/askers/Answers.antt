@@ -10,5 +10,5 @@ pub out-init : goal.out-init
 out-init c =
     let P : List Asker → Type 0 = λ xs. AreSome (maps_of c.args.maps.now) c.args.at xs c.args.at in
     let first : c.push.new.self.items ≡ asker.Module c.args.at ∷ [] =
-        c.in_ok-push.ensures.items ∙ ap (λ (xs : List Asker). xs ++ asker.Module c.args.at ∷ []) c.new-askers.ensures.items in
+    c.in_ok-push.ensures.items ∙ ap (λ (xs : List Asker). xs ++ asker.Module c.args.at ∷ []) c.new-askers.ensures.items in
     subst P (sym first) (some-first (maps_of c.args.maps.now) c.args.at)
