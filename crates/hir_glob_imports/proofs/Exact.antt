@@ -29,12 +29,12 @@ use Rattle.hir_glob_imports.specs.declared.edge.Key.TheVariants.{Types, Values, 
 use Rattle.hir_glob_imports.specs.contracts.edge.KeyOrd.TheImpl as key_order
 use Rattle.hir_glob_imports.specs.Keys.{same_slot}
 
-first_tied : (o p : Ordering) → is_eq (ordering_then o p) ≡ true → is_eq o ≡ true
+pub first_tied : (o p : Ordering) → is_eq (ordering_then o p) ≡ true → is_eq o ≡ true
 first_tied Less p e = e
 first_tied Equal p e = refl
 first_tied Greater p e = e
 
-second_tied : (o p : Ordering) → is_eq (ordering_then o p) ≡ true → is_eq p ≡ true
+pub second_tied : (o p : Ordering) → is_eq (ordering_then o p) ≡ true → is_eq p ≡ true
 second_tied Less p e = absurd (true≢false (sym e))
 second_tied Equal p e = e
 second_tied Greater p e = absurd (true≢false (sym e))
@@ -52,7 +52,7 @@ exact_nat x y e = go (nat_cmp x y) (ranked x y (nat_cmp x y) refl) e
     go Equal m e = m
     go Greater m e = absurd (true≢false (sym e))
 
-exact_in_block : (a b : Option BlockId) → is_eq (option_cmp block_order.ghosts.cmp a b) ≡ true → a ≡ b
+pub exact_in_block : (a b : Option BlockId) → is_eq (option_cmp block_order.ghosts.cmp a b) ≡ true → a ≡ b
 exact_in_block None None e = refl
 exact_in_block None (Some b) e = absurd (true≢false (sym e))
 exact_in_block (Some a) None e = absurd (true≢false (sym e))
@@ -64,26 +64,26 @@ exact_map a b e = λ i. record {
   block = exact_in_block a.block b.block (second_tied (nat_cmp a.krate.0 b.krate.0) _ e) i;
 }
 
-exact_module : (a b : ModuleId) → is_eq (module_order.ghosts.cmp a b) ≡ true → a ≡ b
+pub exact_module : (a b : ModuleId) → is_eq (module_order.ghosts.cmp a b) ≡ true → a ≡ b
 exact_module a b e = λ i. record {
   map = exact_map a.map b.map (first_tied _ _ e) i;
   index = exact_nat a.index b.index (second_tied (map_order.ghosts.cmp a.map b.map) _ e) i;
 }
 
-exact_syntax : (a b : SyntaxId) → is_eq (syntax_order.ghosts.cmp a b) ≡ true → a ≡ b
+pub exact_syntax : (a b : SyntaxId) → is_eq (syntax_order.ghosts.cmp a b) ≡ true → a ≡ b
 exact_syntax a b e = λ i. record {
   hash = exact_nat a.hash b.hash (first_tied _ _ e) i;
   index = exact_nat a.index b.index (second_tied (nat_cmp a.hash b.hash) _ e) i;
 }
 
-exact_edition : (a b : Edition) → is_eq (edition_order.ghosts.cmp a b) ≡ true → a ≡ b
+pub exact_edition : (a b : Edition) → is_eq (edition_order.ghosts.cmp a b) ≡ true → a ≡ b
 exact_edition Edition2015 Edition2015 e = refl
 exact_edition Edition2018 Edition2018 e = refl
 exact_edition Edition2021 Edition2021 e = refl
 exact_edition Edition2024 Edition2024 e = refl
 exact_edition a b e = absurd (true≢false (sym e))
 
-exact_file : (a b : HirFileId) → is_eq (file_order.ghosts.cmp a b) ≡ true → a ≡ b
+pub exact_file : (a b : HirFileId) → is_eq (file_order.ghosts.cmp a b) ≡ true → a ≡ b
 exact_file (file.File a) (file.File b) e = λ i. file.File (record {
   file_id = record { 0 = exact_nat a.file_id.0 b.file_id.0 (first_tied _ _ e) i };
   edition = exact_edition a.edition b.edition (second_tied (nat_cmp a.file_id.0 b.file_id.0) _ e) i;
@@ -92,7 +92,7 @@ exact_file (file.File a) (file.Macro b) e = absurd (true≢false (sym e))
 exact_file (file.Macro a) (file.File b) e = absurd (true≢false (sym e))
 exact_file (file.Macro a) (file.Macro b) e = λ i. file.Macro (record { 0 = exact_nat a.0 b.0 e i })
 
-exact_trait : (a b : TraitId) → is_eq (trait_order.ghosts.cmp a b) ≡ true → a ≡ b
+pub exact_trait : (a b : TraitId) → is_eq (trait_order.ghosts.cmp a b) ≡ true → a ≡ b
 exact_trait a b e =
     let container = module_order.ghosts.cmp a.loc.container b.loc.container in
     let in_file = file_order.ghosts.cmp a.loc.file_id b.loc.file_id in

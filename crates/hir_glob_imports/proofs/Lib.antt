@@ -1,4 +1,5 @@
 pub mod Exact
+pub mod ByModule
 pub mod EdgeLists
 pub mod Settling
 pub mod Updates
@@ -9,3 +10,4 @@ pub mod Spreading
 pub mod Reopening
 pub mod Advancing
 pub mod OfKind
+pub mod SameSeen

@@ -1,24 +1,19 @@
 -- Visibilities of edges, of what globs brought, and of traits without names stay of a kind.
-use Rattle.std.proofs.Common.{◌≡◌, ◌∙◌, ap, sym, subst, refl, ℕ, Bool, true, false, ◌⊎◌, inl, inr, List, [], ◌∷◌, length, map as list_map, Option, None, Some}
-use Rattle.std.proofs.Common.{slice_get, if◌then◌else◌, arith}
-use Rattle.std.proofs.lemmas.List.Elements.{Contains-append_right}
-use Rattle.std.proofs.lemmas.Map.Entries.{lookup_tail}
-use Rattle.std.specs.BTreeMap.{is_at}
-use Rattle.std.specs.Map.{lookup}
+use Rattle.std.proofs.Common.{◌≡◌, ◌∙◌, ap, sym, subst, refl, ℕ, Bool, true, false, ◌⊎◌, inl, inr, List, length, Option, None, Some}
+use Rattle.std.proofs.Common.{slice_get, if◌then◌else◌}
 use mathlib.Core.Bool.{true≢false}
-use Rattle.std.specs.Prelude.{Contains, IsSome, is_some}
+use Rattle.std.specs.Prelude.{IsSome, is_some}
 use Rattle.hir_scope.specs.HirIds.declared.ids.TraitId.{TraitId}
 use Rattle.hir_scope.specs.HirPerNs.declared.visibility.Visibility.{Visibility}
 use Rattle.hir_glob_imports.specs.Types.{Bound, Brought, Edge, Key, Slot}
-use Rattle.hir_glob_imports.specs.declared.edge.Key.TheVariants.{Types, Values, Macros, Unnamed}
-use Rattle.hir_glob_imports.specs.contracts.edge.SlotOrd.TheImpl as slot_order
+use Rattle.hir_glob_imports.specs.declared.edge.Key.TheVariants.{Unnamed}
 use Rattle.hir_glob_imports.specs.declared.edge.Target.TheVariants.{Own}
 use Rattle.hir_glob_imports.specs.Keys.{is_unnamed, same_slot, slot_at}
 use Rattle.hir_glob_imports.specs.Moves.{brought_vis, may_raise, same_vis, seen_by}
 use Rattle.hir_glob_imports.specs.Rules.{BroughtBy, GlobState, May, Rule, Shows, Step, StepsIn, after, as_seen, copies_along, follows_along, more_in, none_in}
 use Rattle.hir_glob_imports.specs.Rules.{noted, raises_along}
 use Rattle.hir_glob_imports.specs.View.{Binds, ChangesOnly, IsNameTable, NameTable, View, bound_in, with_vis}
-use Rattle.hir_glob_imports.specs.Waves.{AreOfKind, FindsKind, GlobsValue, Records, Stands, adds, brought_of, edge_with_vis, stays, wider_of, widens}
+use Rattle.hir_glob_imports.specs.Waves.{AreOfKind, FindsKind, Records, Stands, adds, edge_with_vis, stays, wider_of, widens}
 use Rattle.hir_glob_imports.proofs.Exact.{exact_slot}
 use Rattle.hir_glob_imports.proofs.Linking.{one_or_last, one_or_written}
 pub use Rattle.hir_glob_imports.proofs.Resting.{nothing_along}
@@ -196,22 +191,3 @@ module _ (P : Visibility → Type 0) where
       each (stays k x there ends wider is) j d found = kinds.edges j d (subst (λ (es : List Edge). slice_get es j ≡ Some d) is found)
       each (adds apart is) j d found =
           one_more e (length old) of_kind j d (one_or_last old e j d (subst (λ (es : List Edge). slice_get es j ≡ Some d) is found))
-
--- ---- what is brought is listed
-
-looked_up : (s : Slot) (es : List (Slot × Brought)) (by : Brought) → lookup (is_at (slot_order.ghosts.cmp s)) es ≡ Some by
-    → Contains (list_map (λ (e : Slot × Brought). e.0) es) s
-looked_up s [] by is = absurd cc
-looked_up s (e ∷ es) by is = go (looked_up s es by) (same_slot s e.0) refl is
-  where
-    later : Contains (list_map (λ (x : Slot × Brought). x.0) es) s → Contains (list_map (λ (x : Slot × Brought). x.0) (e ∷ es)) s
-    later h = Contains-append_right (e.0 ∷ []) (list_map (λ (x : Slot × Brought). x.0) es) s h
-
-    go : (lookup (is_at (slot_order.ghosts.cmp s)) es ≡ Some by → Contains (list_map (λ (x : Slot × Brought). x.0) es) s)
-        → (t : Bool) → same_slot s e.0 ≡ t → lookup (is_at (slot_order.ghosts.cmp s)) (e ∷ es) ≡ Some by
-        → Contains (list_map (λ (x : Slot × Brought). x.0) (e ∷ es)) s
-    go rest true same found = (0, omega arith, sym (exact_slot s e.0 same))
-    go rest false other found = later (rest (sym (lookup_tail (is_at (slot_order.ghosts.cmp s)) e es other) ∙ found))
-
-pub brought_listed : (g : GlobsValue) (s : Slot) (by : Brought) → brought_of g s ≡ Some by → Contains (list_map (λ (e : Slot × Brought). e.0) g.brought) s
-brought_listed g s by is = looked_up s g.brought by is

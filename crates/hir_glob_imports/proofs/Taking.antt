@@ -10,7 +10,8 @@ use Rattle.std.specs.Map.{lookup}
 use Rattle.hir_scope.specs.HirPerNs.contracts.visibility.VisibilityEq.TheImpl.Laws.{laws-law as vis_laws}
 use Rattle.hir_scope.specs.HirPerNs.declared.visibility.Visibility.{Visibility}
 use Rattle.hir_glob_imports.specs.contracts.edge.BoundEq.TheImpl.Laws.{laws-law as bound_laws}
-use Rattle.hir_glob_imports.specs.contracts.edge.SlotOrd.TheImpl as slot_order
+use Rattle.std.specs.Ordering.{nat_cmp}
+use Rattle.hir_glob_imports.specs.ByModule.{brought_in}
 use Rattle.hir_glob_imports.specs.Types.{Bound, Brought, Edge, Key, Slot}
 use Rattle.hir_glob_imports.specs.declared.edge.Update.TheVariants.{Nothing, Copy, Follow, Raise}
 use Rattle.hir_glob_imports.specs.declared.step.TheConstants.{MAX_STEPS}
@@ -56,7 +57,7 @@ settled_now v j e key b c named =
     ∙ ap (λ (t : Bool). if t then Nothing else Follow b) (as_seen-now j e b)
 
 pub brought_by_list : (a b : GlobsValue) → a.brought ≡ b.brought → brought_of a ≡ brought_of b
-brought_by_list a b same = λ i q. lookup (is_at (slot_order.ghosts.cmp q)) (same i)
+brought_by_list a b same = λ i q. brought_in (lookup (is_at (nat_cmp q.at)) (same i)) q.key
 
 -- ---- steps that may be taken
 

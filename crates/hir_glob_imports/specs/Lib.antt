@@ -1,5 +1,6 @@
 -- ---- what is read and written
 pub mod Keys
+pub mod ByModule
 pub mod View
 -- ---- what globs do
 pub mod Moves

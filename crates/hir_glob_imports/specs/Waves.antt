@@ -3,7 +3,7 @@ use Rattle.std.specs.Prelude.{◌≡◌, ℕ, Bool, true, false, ◌==◌, ◌&&
 use Rattle.std.specs.Prelude.{if◌then◌else◌}
 use Rattle.std.specs.BTreeMap.{is_at}
 use Rattle.std.specs.Map.{lookup}
-use Rattle.hir_glob_imports.specs.contracts.edge.SlotOrd.TheImpl as slot_order
+use Rattle.std.specs.Ordering.{nat_cmp}
 use Rattle.hir_scope.specs.HirIds.declared.ids.TraitId.{TraitId}
 use Rattle.hir_scope.specs.HirPerNs.declared.visibility.Visibility.{Visibility}
 use Rattle.hir_glob_imports.specs.declared.edge.Bound.{Bound}
@@ -16,6 +16,7 @@ use Rattle.hir_glob_imports.specs.declared.edge.Target.{Target}
 use Rattle.hir_glob_imports.specs.declared.edge.Target.TheVariants as target
 use Rattle.hir_glob_imports.specs.declared.edge.Update.{Update}
 use Rattle.hir_glob_imports.specs.declared.edge.Update.TheVariants.{Nothing}
+use Rattle.hir_glob_imports.specs.ByModule.{BroughtKeys, brought_in}
 use Rattle.hir_glob_imports.specs.Keys.{slot_at, is_unnamed}
 use Rattle.hir_glob_imports.specs.Moves.{shown, brought_vis, is_as_seen, may_raise, same_def, same_vis, update_of}
 use Rattle.hir_glob_imports.specs.Rules.{BroughtBy, GlobState}
@@ -24,12 +25,13 @@ use Rattle.hir_glob_imports.specs.View.{View, bound_in, ChangesOnly}
 -- what is kept of globs: the edges, what each brought, and the pairs of edges and keys that are to be looked at, the last first
 pub record GlobsValue : Type 0 where
   pub edges : List Edge
-  pub brought : List (Slot × Brought)
+  -- by module
+  pub brought : List (ℕ × BroughtKeys)
   pub pending : List (ℕ × Key)
 
 -- which edge brought what stands in each slot, where one did
 abbrev pub brought_of : GlobsValue → BroughtBy
-brought_of g s = lookup (is_at (slot_order.ghosts.cmp s)) g.brought
+brought_of g s = brought_in (lookup (is_at (nat_cmp s.at)) g.brought) s.key
 
 -- what is to be done along an edge at the key of a slot of its importer
 abbrev pub update_in : View → BroughtBy → ℕ → Edge → Slot → Update

@@ -1,23 +1,26 @@
 //! The glob imports of a map that is being built.
-ghost use Rattle.std.specs.Prelude.{◌≡◌, ◌++◌, ℕ, [], ◌∷◌, true, map, None, Option, Some, OnOk, OnErr, IfOk, IfSome, IfNone, slice_get, Contains, ◌⊎◌};
+ghost use Rattle.std.specs.Prelude.{◌≡◌, ◌++◌, ℕ, [], ◌∷◌, true, None, Option, Some, OnOk, OnErr, IfOk, IfSome, IfNone, slice_get, Contains, ◌⊎◌};
 ghost use Rattle.std.specs.Option.{option_copied};
 ghost use Rattle.hir_glob_imports.specs.declared.edge.Key.{Key};
 ghost use Rattle.hir_glob_imports.specs.Rules.{with_brought, noted};
 ghost use Rattle.hir_glob_imports.specs.Waves.{brought_of, has_same_ends};
 
+use crate::brought::{BroughtKeys, SeenCache, brought_at};
 use crate::edge::{Brought, Edge, Key, Slot, Target};
 use crate::index::EdgesByModule;
 use std::alloc::{AllocError, Global};
-use std::collections::{BTreeMap, btree_map};
+use std::collections::BTreeMap;
 use std::marker::Model;
 
 /// The globs of a map that were recorded, what each brought, and where changes have yet to go along them.
 pub struct GlobImports {
     pub(crate) edges: Vec<Edge>,
-    pub(crate) brought: BTreeMap<Slot, Brought>,
+    pub(crate) brought: BTreeMap<u32, BroughtKeys>,
+    pub(crate) cache: SeenCache,
     pub(crate) pending: Vec<(usize, Key)>,
     pub(crate) out_of: EdgesByModule,
     pub(crate) into: EdgesByModule,
+    pub(crate) alloc: Global,
 }
 
 impl Drop for GlobImports {
@@ -25,9 +28,11 @@ impl Drop for GlobImports {
         let GlobImports {
             edges: _,
             brought: _,
+            cache: _,
             pending: _,
             out_of: _,
             into: _,
+            alloc: _,
         } = self;
     }
 }
@@ -53,9 +58,11 @@ impl GlobImports {
         GlobImports {
             edges: Vec::new(alloc),
             brought: BTreeMap::new(alloc),
+            cache: SeenCache::new(alloc),
             pending: Vec::new(alloc),
             out_of: EdgesByModule::new(alloc),
             into: EdgesByModule::new(alloc),
+            alloc,
         }
     }
 
@@ -80,17 +87,10 @@ impl GlobImports {
         self.edges.get(j).copied()
     }
 
-    /// The slots to which edges brought something, in ascending order.
-    pub fn brought_slots(&self) -> btree_map::Keys<'_, Slot, Brought>
-        ensures value { result ≡ map (λ entry. entry.0) self.now.brought }
-    {
-        self.brought.keys()
-    }
-
     /// The edge that brought what stands in a slot, where one did.
     pub fn brought(&self, slot: &Slot) -> Option<Brought>
         ensures value { result ≡ brought_of self.now slot.now }
     {
-        self.brought.get(slot).copied()
+        brought_at(&self.brought, slot)
     }
 }

@@ -12,6 +12,7 @@
 //! that changed is pending in turn. So it costs what changes, and no pass goes over edges or names.
 #![tactic(auto)]
 
+mod brought;
 pub mod edge;
 pub mod glob_imports;
 mod index;

@@ -11,6 +11,7 @@ ghost use Rattle.hir_glob_imports.specs.Rules.{with_brought};
 ghost use Rattle.hir_glob_imports.specs.View.{View};
 ghost use Rattle.hir_glob_imports.specs.Waves.{brought_of, IsExplicit, IsKept, Stands};
 
+use crate::brought::forget_brought;
 use crate::edge::{Edge, Key, Slot};
 use crate::glob_imports::GlobImports;
 use crate::index::EdgesByModule;
@@ -91,7 +92,7 @@ impl GlobImports {
         ensures brought { OnOk result (brought_of self.new ≡ with_brought (brought_of self.old) slot.now None) }
         ensures kept { OnOk result ((v w : View) → IsKept v self.old → IsExplicit slot.now v w → IsKept w self.new) }
     {
-        self.brought.remove(slot);
+        forget_brought(&mut self.brought, slot);
         self.spread(slot, slot.key.is_unnamed())
     }
 

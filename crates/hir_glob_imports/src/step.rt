@@ -5,7 +5,8 @@ ghost use Rattle.hir_glob_imports.specs.Inner.{IsKeptBut, Takes};
 ghost use Rattle.hir_glob_imports.specs.Rules.{after, copies_along, follows_along, noted, IsSpent};
 ghost use Rattle.hir_glob_imports.specs.Waves.{brought_of, update_in, state_of, IsKept};
 
-use crate::edge::{Bound, Brought, Edge, Slot, Update};
+use crate::brought::write_brought;
+use crate::edge::{Bound, Brought, Edge, Slot, Target, Update};
 use crate::glob_imports::GlobImports;
 use crate::names::Names;
 use hir_scope::visibility::Visibility;
@@ -48,8 +49,8 @@ fn tick(count: &mut u32) -> Result<(), GlobError>
 }
 
 impl GlobImports {
-    /// Notes what brought a slot; of a trait without a name it isn't kept.
-    fn note(&mut self, slot: &Slot, by: Brought) -> Result<(), AllocError>
+    /// Notes what brought a slot along an edge out of a source; of a trait without a name it isn't kept.
+    fn note(&mut self, slot: &Slot, source: Target, by: Brought) -> Result<(), AllocError>
         ensures ok { OnOk result (brought_of self.new ≡ noted (brought_of self.old) slot.now by) }
         ensures edges { self.new.edges ≡ self.old.edges }
         ensures pending { self.new.pending ≡ self.old.pending }
@@ -57,8 +58,8 @@ impl GlobImports {
         if slot.key.is_unnamed() {
             return Ok(());
         }
-        self.brought.insert(slot.clone()?, by)?;
-        Ok(())
+        let bringer = self.cache.bringer(self.alloc, source, by)?;
+        write_brought(self.alloc, &mut self.brought, slot, bringer)
     }
 
     /// Copies what the source of an edge shows.
@@ -83,6 +84,7 @@ impl GlobImports {
         names.copy(slot, edge.source, shown, vis, edge.id)?;
         self.note(
             slot,
+            edge.source,
             Brought {
                 edge: j,
                 seen: shown,
@@ -114,6 +116,7 @@ impl GlobImports {
         names.follow(slot, edge.source, shown, vis)?;
         self.note(
             slot,
+            edge.source,
             Brought {
                 edge: j,
                 seen: shown,

@@ -28,5 +28,6 @@ pub mod Starting
 -- what is queued before a round
 pub mod Growing
 pub mod GlobsLasting
+pub mod PlacedNames
 -- what is sound
 pub mod Soundness

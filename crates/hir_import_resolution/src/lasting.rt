@@ -1,8 +1,10 @@
 //! What of imports and globs lasts as the map that has them grows.
-ghost use Rattle.std.specs.Prelude.{◌≡◌, ℕ, true, Some, slice_get};
+ghost use Rattle.std.specs.Prelude.{◌≡◌, ℕ, true, false, List, Some, slice_get};
+ghost use Rattle.std.specs.List.{AllByRecursion};
 ghost use Rattle.hir_def_map_rules.specs.State.{IsInOrder, module_at};
 ghost use Rattle.hir_nameres.specs.WorldParts.{part_of};
 ghost use Rattle.hir_nameres.specs.HirIds.declared.ids.TraitId.{TraitId};
+ghost use Rattle.hir_nameres.specs.HirPerNs.PerNs.{Item};
 ghost use Rattle.hir_nameres.specs.HirPerNs.declared.visibility.Visibility.{Visibility};
 ghost use Rattle.hir_def_map_laws.specs.ReadLaw.{has_no_variants, is_bare, is_bare_def, stops_bare};
 ghost use Rattle.hir_nameres.specs.Scoping.Slots.{slot_of};
@@ -11,16 +13,19 @@ ghost use Rattle.hir_glob_imports.specs.declared.edge.Bound.{Bound};
 ghost use Rattle.hir_glob_imports.specs.declared.edge.Brought.{Brought};
 ghost use Rattle.hir_glob_imports.specs.declared.edge.Edge.{Edge};
 ghost use Rattle.hir_glob_imports.specs.Waves.{brought_of};
+ghost use Rattle.hir_glob_imports.specs.declared.edge.Key.{Key as GlobKey};
 ghost use Rattle.hir_glob_imports.specs.declared.edge.Slot.{Slot as GlobSlot};
+ghost use Rattle.hir_glob_imports.specs.Keys.{is_unnamed};
 ghost use Rattle.hir_import_resolution.specs.Inner.State.{IsApart, state_in};
 ghost use Rattle.hir_import_growth.specs.ViewLaws.{bound_inside};
 ghost use Rattle.hir_import_rules.specs.Lasting.{HasVariants, IsPlaced, IsThere, Lasts};
 ghost use Rattle.hir_import_rules.specs.Names.{trait_vis};
 
 use crate::imports::Imports;
-use crate::scopes::{bound_inside, trait_vis};
+use crate::scopes::trait_vis;
 use hir_base::ids::{AdtId, EnumId, ModuleDefId, TraitId};
-use hir_glob_imports::{Edge, GlobImports, Slot, Target};
+use hir_glob_imports::{Edge, GlobImports, Target};
+use hir_nameres::hir_scope::item_scope::iter::bindings::Bindings;
 use hir_nameres::hir_scope::per_ns::TypesItem;
 use hir_nameres::hir_scope::visibility::Visibility;
 use hir_nameres::nameres::DefMap;
@@ -37,16 +42,6 @@ pub(crate) fn is_placed(map: &DefMap, vis: Visibility) -> bool
             module.map != map.id() || module.index < map.module_count()
         }
         Visibility::Public | Visibility::PubCrate(_) => true,
-    }
-}
-
-/// Whether what stands in a slot, if something does, has a visibility that names a module that is there.
-pub(crate) fn is_placed_at(map: &DefMap, slot: &Slot) -> bool
-    ensures placed { result ≡ true → (b : Bound) → bound_inside slot.now.key (module_at map.now slot.now.at) ≡ Some b → IsPlaced map.now b.vis }
-{
-    match bound_inside(map, slot.at, &slot.key) {
-        Some(bound) => is_placed(map, bound.vis),
-        None => true,
     }
 }
 
@@ -163,17 +158,56 @@ fn are_edges_firm(map: &DefMap, edges: &[Edge]) -> bool
     true
 }
 
-/// Whether the visibilities of what globs brought name modules that are there.
-fn is_brought_placed(map: &DefMap, globs: &GlobImports) -> bool
-    ensures placed { result ≡ true → (s : GlobSlot) (by : Brought) (b : Bound) → brought_of globs.now s ≡ Some by → bound_inside s.key (module_at map.now s.at) ≡ Some b → IsPlaced map.now b.vis }
+/// Whether the visibilities of items name modules that are there.
+fn are_placed<Def, Import>(map: &DefMap, items: Bindings<'_, Def, Import>) -> bool
+    ensures placed { result ≡ true → AllByRecursion (λ (e : List ℕ × Item Def Import). IsPlaced map.now e.1.vis) items.entry }
 {
-    let mut left = globs.brought_slots();
-    'next: while let Some(slot) = left.next() {
-        if !is_placed_at(map, slot) {
+    let mut left = items;
+    'next: while let Some((_name, item)) = left.next() {
+        if !is_placed(map, item.vis) {
             return false;
         }
     }
     true
+}
+
+/// Whether the visibilities of all that names stand for in a module do.
+fn is_scope_placed(map: &DefMap, at: u32) -> bool
+    ensures placed { result ≡ true → (key : GlobKey) (b : Bound) → is_unnamed key ≡ false → bound_inside key (module_at map.now at) ≡ Some b → IsPlaced map.now b.vis }
+{
+    match map.scope(at) {
+        Some(scope) => {
+            if !are_placed(map, scope.types()) {
+                return false;
+            }
+            if !are_placed(map, scope.values()) {
+                return false;
+            }
+            are_placed(map, scope.macros())
+        }
+        None => true,
+    }
+}
+
+/// Whether those of all that names stand for do.
+fn are_names_placed(map: &DefMap) -> bool
+    ensures placed { result ≡ true → (at : ℕ) (key : GlobKey) (b : Bound) → is_unnamed key ≡ false → bound_inside key (module_at map.now at) ≡ Some b → IsPlaced map.now b.vis }
+{
+    for at in 0..map.module_count() {
+        if !is_scope_placed(map, at) {
+            return false;
+        }
+    }
+    true
+}
+
+/// Whether the visibilities of what globs brought name modules that are there; those of all names are looked at.
+fn is_brought_placed(map: &DefMap, globs: &GlobImports) -> bool
+    requires traits { (at : ℕ) (id : TraitId) (vis : Visibility) → trait_vis (module_at map.now at) id ≡ Some vis → IsPlaced map.now vis }
+    ensures placed { result ≡ true → (s : GlobSlot) (by : Brought) (b : Bound) → brought_of globs.now s ≡ Some by → bound_inside s.key (module_at map.now s.at) ≡ Some b → IsPlaced map.now b.vis }
+{
+    let _ = globs;
+    are_names_placed(map)
 }
 
 /// Whether what holds of globs lasts as the map grows, with nothing known of it.
@@ -188,6 +222,6 @@ pub(crate) fn do_globs_last(apart: bool, world: WorldPart<'_>, imports: &Imports
         && map.block_id().is_none()
         && map.parent().is_none()
         && are_edges_firm(map, imports.globs.edges())
-        && is_brought_placed(map, &imports.globs)
         && have_traits_placed(map)
+        && is_brought_placed(map, &imports.globs)
 }

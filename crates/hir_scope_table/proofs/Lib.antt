@@ -11,3 +11,7 @@ pub mod Places
 pub mod Edits
 pub mod Revisions
 pub mod Names
+pub mod ByModule
+pub mod NamesByModule
+pub mod GapLists
+pub mod GapMaps

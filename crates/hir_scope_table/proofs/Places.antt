@@ -1,12 +1,12 @@
 -- What is known of the place where a key belongs among entries in order.
-use Rattle.std.proofs.Common.{◌≡◌, ◌∙◌, ap, sym, subst, refl, ℕ, zero, suc, ◌+◌, ◌*◌, ◌-◌, ◌/◌, ◌^◌, ◌<◌, ◌≤◌, true, false, Bool, List, [], ◌∷◌, Option, None}
+use Rattle.std.proofs.Common.{◌≡◌, ◌∙◌, ap, sym, subst, refl, ℕ, zero, suc, ◌*◌, ◌-◌, ◌/◌, ◌^◌, ◌<◌, ◌≤◌, true, false, Bool, List, [], ◌∷◌, Option, None}
 use Rattle.std.proofs.Common.{Some, cond, length, get_or, arith, option_map, pow-suc, mul_assoc}
 use mathlib.Core.Bool.{true≢false}
 use Rattle.std.specs.Option.{is_some}
 use Rattle.std.specs.declared.cmp.Ordering.{Ordering}
 use Rattle.std.specs.declared.cmp.Ordering.TheVariants.{Less, Equal, Greater}
 use Rattle.std.specs.Cmp.{IsTotalOrder}
-use Rattle.std.specs.Ordering.{is_eq, is_lt, match_ordering, ordering_reverse}
+use Rattle.std.specs.Ordering.{is_eq, is_lt, match_ordering}
 use Rattle.std.specs.BTreeMap.{is_at, insert_entry}
 use Rattle.std.specs.List.{AllByRecursion, insert, remove, slice_get, slice_set}
 use Rattle.std.specs.List.Sorted.{IsStrictlySortedBy}
@@ -142,6 +142,19 @@ module _ {K E : Type 0} (cmp : K → K → Ordering) (total : IsTotalOrder cmp) 
       ap (λ (o : Option ℕ). option_map (λ i. suc i) o) (no_position es i (sorted_tail cmp e.0 (keys_of es) s) a.1 q)
       ∙ sym (ap (λ r. cond (is_eq r) (Some 0) (option_map (λ i. suc i) (position_of cmp (keys_of es) k))) a.0)
 
+-- ---- where a query belongs
+
+module _ {K E : Type 0} (compare : K → Ordering) (es : List (K × E)) (i : ℕ) where
+  pub belongs_before : i ≤ length es → IsAboveFirst compare es i → ComparesAt compare es i Less → BelongsAt compare es i false
+  belongs_before within above there = record { above = above; there = there; within = within; inside = λ found. absurd (true≢false (sym found)) }
+
+  pub belongs_here : i < length es → IsAboveFirst compare es i → ComparesAt compare es i Equal → BelongsAt compare es i true
+  belongs_here inside above there = record { above = above; there = there; within = omega (arith, inside); inside = λ found. inside }
+
+  -- behind all entries
+  pub belongs_last : i ≡ length es → IsAboveFirst compare es i → BelongsAt compare es i false
+  belongs_last end above = belongs_before (omega (arith, end)) above (subst (λ n. ComparesAt compare es n Less) (sym end) (above_none compare es))
+
 -- ---- what is at a place
 
 pub there_is : {X : Type 0} (xs : List X) (i : ℕ) → i < length xs → (x : X) × (slice_get xs i ≡ Some x)
@@ -189,3 +202,16 @@ has_halved n left less c some half h =
 
 pub counted_one_more : (n left c : ℕ) → 0 < left → HasHalved n left c → suc c ≤ binary_digits n
 counted_one_more n left c some h = digits_from_power n n c (omega arith) (power_within n left c some h)
+
+-- a greater number hasn't fewer digits
+digits_ascend : (a b n m : ℕ) → n ≤ a → m ≤ b → n ≤ m → digits_upto a n ≤ digits_upto b m
+digits_ascend zero b n m inside within less = omega arith
+digits_ascend (suc a) b zero m inside within less = omega arith
+digits_ascend (suc a) zero (suc n) m inside within less = absurd (omega (arith, within, less))
+digits_ascend (suc a) (suc b) (suc n) zero inside within less = absurd (omega (arith, less))
+digits_ascend (suc a) (suc b) (suc n) (suc m) inside within less =
+    let rest = digits_ascend a b (suc n / 2) (suc m / 2) (omega (arith, inside)) (omega (arith, within)) (omega (arith, less)) in
+    omega (arith, rest)
+
+pub fewer_digits : (n m : ℕ) → n ≤ m → binary_digits n ≤ binary_digits m
+fewer_digits n m less = digits_ascend n m n m (omega arith) (omega arith) less

@@ -1,4 +1,5 @@
 pub mod Reserved
 pub mod Picked
 pub mod Place
+pub mod Places
 pub mod Kept

@@ -14,18 +14,22 @@ ghost use Rattle.hir_scope_table.specs.Inner.Kept.{unboxed, over, marked, no_slo
 ghost use Rattle.hir_scope_table.specs.Inner.Place.{BelongsAt, IsKept};
 
 use crate::entry::{Entry, Filling, Revise};
-use crate::probe::{Probe, place_of};
+use crate::probe::{Probe, place_among, place_of};
 use hir_ids::name::Name;
 use std::alloc::{AllocError, Global};
+use std::cell::Cell;
 use std::marker::Model;
 
 /// Names with what they stand for in each namespace, and the names that are unresolved.
 ///
 /// The entries stand in the order of their names, each name once, and each entry says something of its name. A look-up
-/// halves the list, and one place moves what stands behind it, which is one pointer for each name.
+/// begins where the last one ended, and else halves the list. One place moves what stands behind it, which is one pointer
+/// for each name.
 #[derive(Drop)]
 pub struct EntryList<T, V, M> {
     entries: Vec<Entry<T, V, M>>,
+    /// Where the last look-up ended.
+    near: Cell<usize>,
     alloc: Global,
 }
 
@@ -48,6 +52,7 @@ impl<T, V, M> EntryList<T, V, M> {
     {
         EntryList {
             entries: Vec::new(alloc),
+            near: Cell::new(0),
             alloc,
         }
     }
@@ -72,7 +77,7 @@ impl<T, V, M> EntryList<T, V, M> {
         ensures position { result.0 ≡ position_of (slice_cmp nat_cmp) (keys_of self.now) name.now }
         ensures count { result.1 ≤ binary_digits (length self.now) }
     {
-        let place = place_of(&self.entries, name);
+        let place = place_among(self.entries.as_slice(), name);
         let probe = place.probe;
         let at = position(&self.entries, name, place.at, place.found);
         (at, probe)
@@ -84,7 +89,7 @@ impl<T, V, M> EntryList<T, V, M> {
         ensures values { slot_found (λ s. s.values) result ≡ item_at (values_in self.now) name.now }
         ensures macros { slot_found (λ s. s.macros) result ≡ item_at (macros_in self.now) name.now }
     {
-        entry_of(&self.entries, name)
+        entry_of(&self.entries, &self.near, name)
     }
 }
 
@@ -105,12 +110,13 @@ fn position<T, V, M>(
 /// The entry of a name, if it has one.
 fn entry_of<'a, T, V, M>(
     entries: &'a Vec<Entry<T, V, M>>,
+    near: &Cell<usize>,
     name: &Name,
 ) -> Option<&'a Entry<T, V, M>>
     requires kept { IsKept entries.now.items }
     ensures value { entry_found result ≡ item_at entries.now.items name.now }
 {
-    let place = place_of(entries, name);
+    let place = place_of(entries, name, near);
     if place.found {
         Some(&entries[place.at])
     } else {
@@ -190,6 +196,7 @@ fn marked_entry<T: Copy, V: Copy, M: Copy>(
 fn fill<T: Copy, V: Copy, M: Copy>(
     alloc: Global,
     entries: &mut Vec<Entry<T, V, M>>,
+    near: &Cell<usize>,
     name: &Name,
     filling: Filling<T, V, M>,
 ) -> Result<(), AllocError>
@@ -198,7 +205,7 @@ fn fill<T: Copy, V: Copy, M: Copy>(
         (over (unboxed filling.types) (unboxed filling.values) (unboxed filling.macros) (slots_at entries.old.items name.now))) }
     ensures err { OnErr result (entries.new.items ≡ entries.old.items) }
 {
-    let place = place_of(entries, name);
+    let place = place_of(entries, name, near);
     if place.found {
         fill_at(entries, place.at, filling);
         Ok(())
@@ -212,6 +219,7 @@ fn fill<T: Copy, V: Copy, M: Copy>(
 fn note<T: Copy, V: Copy, M: Copy>(
     alloc: Global,
     entries: &mut Vec<Entry<T, V, M>>,
+    near: &Cell<usize>,
     name: Name,
 ) -> Result<bool, AllocError>
     requires kept { IsKept entries.old.items }
@@ -220,7 +228,7 @@ fn note<T: Copy, V: Copy, M: Copy>(
     ensures changed { IfOk result (λ new. new ≡ not (slots_at entries.old.items name).unresolved) }
     ensures err { OnErr result (entries.new.items ≡ entries.old.items) }
 {
-    let place = place_of(entries, &name);
+    let place = place_of(entries, &name, near);
     if place.found {
         Ok(mark_at(entries, place.at))
     } else {
@@ -239,11 +247,16 @@ fn set_type_at<T: Copy, V: Copy, M: Copy>(entries: &mut Vec<Entry<T, V, M>>, at:
     entry.set_type(item);
 }
 
-fn set_type_of<T: Copy, V: Copy, M: Copy>(entries: &mut Vec<Entry<T, V, M>>, name: &Name, item: T)
+fn set_type_of<T: Copy, V: Copy, M: Copy>(
+    entries: &mut Vec<Entry<T, V, M>>,
+    near: &Cell<usize>,
+    name: &Name,
+    item: T,
+)
     requires kept { IsKept entries.old.items }
     ensures value { entries.new.items ≡ edited (with_type item) entries.old.items name.now (item_at entries.old.items name.now) }
 {
-    let place = place_of(entries, name);
+    let place = place_of(entries, name, near);
     if place.found {
         set_type_at(entries, place.at, item);
     }
@@ -258,11 +271,16 @@ fn set_value_at<T: Copy, V: Copy, M: Copy>(entries: &mut Vec<Entry<T, V, M>>, at
     entry.set_value(item);
 }
 
-fn set_value_of<T: Copy, V: Copy, M: Copy>(entries: &mut Vec<Entry<T, V, M>>, name: &Name, item: V)
+fn set_value_of<T: Copy, V: Copy, M: Copy>(
+    entries: &mut Vec<Entry<T, V, M>>,
+    near: &Cell<usize>,
+    name: &Name,
+    item: V,
+)
     requires kept { IsKept entries.old.items }
     ensures value { entries.new.items ≡ edited (with_value item) entries.old.items name.now (item_at entries.old.items name.now) }
 {
-    let place = place_of(entries, name);
+    let place = place_of(entries, name, near);
     if place.found {
         set_value_at(entries, place.at, item);
     }
@@ -277,21 +295,30 @@ fn set_macro_at<T: Copy, V: Copy, M: Copy>(entries: &mut Vec<Entry<T, V, M>>, at
     entry.set_macro(item);
 }
 
-fn set_macro_of<T: Copy, V: Copy, M: Copy>(entries: &mut Vec<Entry<T, V, M>>, name: &Name, item: M)
+fn set_macro_of<T: Copy, V: Copy, M: Copy>(
+    entries: &mut Vec<Entry<T, V, M>>,
+    near: &Cell<usize>,
+    name: &Name,
+    item: M,
+)
     requires kept { IsKept entries.old.items }
     ensures value { entries.new.items ≡ edited (with_macro item) entries.old.items name.now (item_at entries.old.items name.now) }
 {
-    let place = place_of(entries, name);
+    let place = place_of(entries, name, near);
     if place.found {
         set_macro_at(entries, place.at, item);
     }
 }
 
-fn remove_value_of<T: Copy, V: Copy, M: Copy>(entries: &mut Vec<Entry<T, V, M>>, name: &Name)
+fn remove_value_of<T: Copy, V: Copy, M: Copy>(
+    entries: &mut Vec<Entry<T, V, M>>,
+    near: &Cell<usize>,
+    name: &Name,
+)
     requires kept { IsKept entries.old.items }
     ensures value { entries.new.items ≡ without_value_of entries.old.items name.now (item_at entries.old.items name.now) }
 {
-    let place = place_of(entries, name);
+    let place = place_of(entries, name, near);
     if place.found {
         clear_value(entries, place.at);
     }
@@ -316,7 +343,7 @@ impl<T: Copy, V: Copy, M: Copy> EntryList<T, V, M> {
             return Ok(());
         }
         let filling = Filling::new(self.alloc, types, values, macros)?;
-        fill(self.alloc, &mut self.entries, name, filling)?;
+        fill(self.alloc, &mut self.entries, &self.near, name, filling)?;
         Ok(())
     }
 
@@ -330,7 +357,7 @@ impl<T: Copy, V: Copy, M: Copy> EntryList<T, V, M> {
         ensures changed { IfOk result (λ new. new ≡ not (list_any (is_at (slice_cmp nat_cmp name)) (unresolved_in self.old))) }
         ensures err { OnErr result (self.new ≡ self.old) }
     {
-        let new = note(self.alloc, &mut self.entries, name)?;
+        let new = note(self.alloc, &mut self.entries, &self.near, name)?;
         Ok(new)
     }
 
@@ -341,7 +368,7 @@ impl<T: Copy, V: Copy, M: Copy> EntryList<T, V, M> {
         ensures macros { macros_in self.new ≡ macros_in self.old }
         ensures unresolved { unresolved_in self.new ≡ unresolved_in self.old }
     {
-        set_type_of(&mut self.entries, name, item);
+        set_type_of(&mut self.entries, &self.near, name, item);
     }
 
     /// The same in values.
@@ -351,7 +378,7 @@ impl<T: Copy, V: Copy, M: Copy> EntryList<T, V, M> {
         ensures macros { macros_in self.new ≡ macros_in self.old }
         ensures unresolved { unresolved_in self.new ≡ unresolved_in self.old }
     {
-        set_value_of(&mut self.entries, name, item);
+        set_value_of(&mut self.entries, &self.near, name, item);
     }
 
     /// The same in macros.
@@ -361,7 +388,7 @@ impl<T: Copy, V: Copy, M: Copy> EntryList<T, V, M> {
         ensures macros { macros_in self.new ≡ set_value (is_at (slice_cmp nat_cmp name.now)) (macros_in self.old) item }
         ensures unresolved { unresolved_in self.new ≡ unresolved_in self.old }
     {
-        set_macro_of(&mut self.entries, name, item);
+        set_macro_of(&mut self.entries, &self.near, name, item);
     }
 
     /// Takes out what a name stands for in values. An entry that says nothing of its name then goes.
@@ -371,7 +398,7 @@ impl<T: Copy, V: Copy, M: Copy> EntryList<T, V, M> {
         ensures macros { macros_in self.new ≡ macros_in self.old }
         ensures unresolved { unresolved_in self.new ≡ unresolved_in self.old }
     {
-        remove_value_of(&mut self.entries, name);
+        remove_value_of(&mut self.entries, &self.near, name);
     }
 
     /// Writes what each name stands for anew.

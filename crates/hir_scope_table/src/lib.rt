@@ -1,6 +1,8 @@
 //! The names of a scope, and what a push makes of a name in one namespace.
 //!
-//! An `EntryList` has the names in their order, each with what it stands for in each namespace. A look-up halves the list.
+//! An `EntryList` has the names in their order, each with what it stands for in each namespace. A look-up begins where the last
+//! one ended, and else halves the list. What globs brought is kept by module, in maps with a gap (`GapMap`): a glob brings names
+//! in their order, so each goes behind the last one, and none is moved for it.
 //!
 //! An explicit binding replaces a glob's, and else stays, but for its own import, which may come to reach another
 //! definition. The difficulty is memory: a push writes the entry of its name, and in up to three namespaces the record of
@@ -13,6 +15,8 @@ pub use hir_scope_item::item;
 
 pub mod entry;
 pub mod entry_list;
+pub mod gap_list;
+pub mod gap_map;
 pub mod globs;
 pub mod laws;
 pub mod merge_sorted;

@@ -1,11 +1,11 @@
-//! Entries and keys that are added to maps and sets before anything is written.
-ghost use Rattle.std.specs.Prelude.{◌≡◌, Bool, true, false, List, Some, OnErr, IfOk};
+//! Entries that are added to maps before anything is written.
+ghost use Rattle.std.specs.Prelude.{◌≡◌, true, false, List, Some, OnErr, IfOk};
 ghost use Rattle.hir_scope_table.specs.Entries.{with_some_entry};
-ghost use Rattle.hir_scope_table.specs.Inner.Reserved.{IsEntryFor, IsKeyFor};
+ghost use Rattle.hir_scope_table.specs.Inner.Reserved.{IsEntryFor};
 
 use std::alloc::AllocError;
+use std::collections::BTreeMap;
 use std::collections::btree_map::Entry;
-use std::collections::{BTreeMap, BTreeSet};
 
 /// What was added to the records and to the glob table before a candidate is written.
 #[derive(Clone, Copy)]
@@ -60,23 +60,5 @@ pub(crate) fn write_entry<K: Ord + Drop, V: Drop>(
     }
     if let Some(place) = map.get_mut(key) {
         *place = value;
-    }
-}
-
-/// Adds a key unless it is there, and says whether it was added.
-pub(crate) fn add_key<K: Ord + Drop>(set: &mut BTreeSet<K>, key: K) -> Result<bool, AllocError>
-    ensures ok { IfOk result (λ added. IsKeyFor K.cmp set.old.keys key true added set.new.keys) }
-    ensures err { OnErr result (set.new.keys ≡ set.old.keys) }
-{
-    Ok(set.insert(key)?)
-}
-
-/// Takes out a key that was added.
-pub(crate) fn remove_key<K: Ord + Drop>(set: &mut BTreeSet<K>, key: &K, added: bool)
-    ensures back { (earlier : List K) (wanted : Bool) → IsKeyFor K.cmp earlier key.now wanted added set.old.keys
-        → set.new.keys ≡ earlier }
-{
-    if added {
-        set.remove(key);
     }
 }

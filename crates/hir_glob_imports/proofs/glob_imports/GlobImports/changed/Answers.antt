@@ -6,5 +6,5 @@ use Rattle.hir_glob_imports.proofs.glob_imports.GlobImports.changed.Goals as goa
 pub returns : goal.returns
 returns c = changed_answer c.spread.result c.args.slot.now c.is_unnamed.result c.args.self.now
     (record { edges = c.self.inside.edges.items; brought = c.self.inside.brought.entries; pending = c.self.inside.pending.items })
-    (record { edges = c.self.inside.edges.items; brought = c.remove.new.self.entries; pending = c.self.inside.pending.items })
-    c.spread.new.self c.self.view_is refl refl c.remove.ensures.updates.0 c.is_unnamed.ensures.value c.spread.ensures.spreads
+    (record { edges = c.self.inside.edges.items; brought = c.forget_brought.new.modules.entries; pending = c.self.inside.pending.items })
+    c.spread.new.self c.self.view_is refl refl c.forget_brought.ensures.value c.is_unnamed.ensures.value c.spread.ensures.spreads
