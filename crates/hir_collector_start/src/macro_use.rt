@@ -84,7 +84,7 @@ fn lists_names(input: &Option<AttrInput>) -> bool
 }
 
 /// Whether some `macro_use` lists none.
-fn wants_all(attrs: &[Attr]) -> bool
+pub fn wants_all(attrs: &[Attr]) -> bool
     ensures value { result ≡ wants_all (list_map numbered attrs.now) }
 {
     for attr in attrs {

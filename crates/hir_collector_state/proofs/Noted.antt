@@ -34,7 +34,7 @@ use Rattle.hir_collector_rules.specs.HirDefMapRules.State.{IsInOrder, Local, Mac
 use Rattle.hir_collector_rules.specs.HirDefMapRules.State.{changes_module, entry_of, module_at, new_module}
 use Rattle.hir_collector_rules.specs.HirDefMapRules.State.{numbered, parent_at, parent_of, push_changes, pushed, pushed_module}
 use Rattle.hir_collector_rules.specs.HirDefMapRules.State.{place_at, Variants, variants_at, with_enum}
-use Rattle.hir_collector_rules.specs.HirDefMapRules.State.{with_extern, with_module, with_module_scope, with_scope}
+use Rattle.hir_collector_rules.specs.HirDefMapRules.State.{with_extern, with_macro_use, with_module, with_module_scope, with_scope}
 use Rattle.hir_collector_rules.specs.HirDefMapRules.declared.declaration.Declaration.{Declaration as Listing}
 use Rattle.hir_collector_rules.specs.HirMapParts.declared.diagnostics.DefDiagnostic.{DefDiagnostic}
 use Rattle.hir_collector_rules.specs.HirMapParts.declared.derive_helpers.DeriveHelper.{DeriveHelper}
@@ -43,7 +43,7 @@ use Rattle.hir_collector_rules.specs.HirNameres.declared.nameres.path_resolution
 use Rattle.hir_collector_rules.specs.HirNameres.declared.nameres.path_resolution.slots.Slot.TheVariants.{Module as of_module, Preludes as of_preludes}
 use Rattle.hir_collector_rules.specs.HirDefMapRules.Scoping.FirstSegment.{legacy_of}
 use Rattle.hir_def_map_laws.proofs.SameAbove.{found-below}
-use Rattle.hir_def_map_laws.proofs.SlotChanges.{Grows-itself, changes-crate, changes-listed, changes-made, changes-pushed}
+use Rattle.hir_def_map_laws.proofs.SlotChanges.{Grows-itself, changes-crate, changes-listed, changes-macro_use, changes-made, changes-pushed}
 use Rattle.hir_def_map_laws.proofs.SlotLists.{textual_macros}
 use Rattle.hir_def_map_laws.specs.ReadLaw.{AgreeAt, Grows}
 use Rattle.hir_def_map_laws.specs.SlotChanges.{ChangesOnly}
@@ -62,9 +62,10 @@ use Rattle.hir_collector_rules.specs.HirImportRules.Changed.{item_cmp, with_item
 use Rattle.hir_collector_rules.specs.Attributes.{is_named_by}
 use Rattle.hir_collector_rules.specs.Changes.{with_builtin_derive, with_derived}
 use Rattle.hir_collector_rules.specs.Invocations.{Invocation, with_invocation, with_noted}
-use Rattle.hir_collector_rules.specs.Macros.{textual_at, with_textual_macro}
+use Rattle.hir_collector_rules.specs.Macros.{textual_at, with_macros_used, with_textual_macro}
 use Rattle.hir_collector_rules.specs.Moves.{begun}
 use Rattle.hir_collector_rules.specs.State.{Run, at_rest, core_in, import_state}
+use Rattle.hir_collector_state.specs.MacroUses.{with_each}
 use Rattle.hir_collector_state.specs.Waiting.{IsNoted, IsNotedBeside, KeepsModules, LeavesGlobs, LeavesImports, NotesSlots, is_helped}
 use Rattle.hir_collector_state.proofs.CallReads.{agree_itself, agree_later, modules_kept_itself}
 use Rattle.hir_collector_state.proofs.InOrder.{in_order_made, in_order_scope}
@@ -584,6 +585,36 @@ noted_extern a b name entry map local changed stay =
     (subst (λ (l : Local). ChangesOnly a.map a.local a.map l (Some (of_preludes name))) (sym local) (changes-crate a.map a.local name entry)))
     (let same : length b.map.modules ≡ length a.map.modules = ap (λ (m : Map). length m.modules) map in omega (arith, same)) (imports_same a b stay map)
     (globs_same a b stay.0 map)
+
+-- a macro of another crate that is used
+noted_use : (a : Run) (e : List ℕ × MacroId) (by : Option ExternCrateId)
+    → IsNoted a (record a { map = with_macro_use a.map e.0 e.1 by; changed = with_preludes e.0 a.changed })
+noted_use a e by =
+    let after : Run = record a { map = with_macro_use a.map e.0 e.1 by; changed = with_preludes e.0 a.changed } in
+    noted_slot a after (of_preludes e.0) refl refl (changes-macro_use a.map a.local e.0 e.1 by) (omega arith)
+    (imports_around a after (refl, refl, refl) (with_macro_use a.map e.0 e.1 by) refl around)
+    (globs_around a after refl (with_macro_use a.map e.0 e.1 by) refl around (λ h. h))
+  where
+    around : GrowsAround a.map (with_macro_use a.map e.0 e.1 by)
+    around = record {
+      grows = (changes-macro_use a.map a.local e.0 e.1 by).grows;
+      modules = omega arith;
+      entries = λ at name. refl;
+      traits = λ at id. refl;
+    }
+
+-- several of them
+noted_uses : (a : Run) (es : List (List ℕ × MacroId)) (by : Option ExternCrateId)
+    → IsNoted a (record a { map = with_macros_used a.map es by; changed = with_each es a.changed })
+noted_uses a [] by = noted_itself a
+noted_uses a (e ∷ es) by =
+    noted_follow (noted_use a e by) (noted_uses (record a { map = with_macro_use a.map e.0 e.1 by; changed = with_preludes e.0 a.changed }) es by)
+
+pub noted_used : (a : Run) (map : Map) (changed : ChangedValue) (es : List (List ℕ × MacroId)) (by : Option ExternCrateId) → map
+    ≡ with_macros_used a.map es by → changed ≡ with_each es a.changed → IsNoted a (record a { map = map; changed = changed })
+noted_used a map changed es by used noted =
+    subst (λ (m : Map). IsNoted a (record a { map = m; changed = changed })) (sym used)
+    (subst (λ (c : ChangedValue). IsNoted a (record a { map = with_macros_used a.map es by; changed = c })) (sym noted) (noted_uses a es by))
 
 -- what is listed
 pub noted_list : (a b : Run) (home : ℕ) (d : Listing) → b.map ≡ with_scope a.map home (listed d) → b.local ≡ a.local → b.changed ≡ a.changed → KeepsImports a b

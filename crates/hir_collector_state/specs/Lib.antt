@@ -1,4 +1,5 @@
 -- ---- words of private code
+pub mod MacroUses
 pub mod Waiting
 pub use Rattle.hir_collector_rules.specs.HirBase as HirBase
 pub use Rattle.hir_collector_rules.specs as HirCollectorRules

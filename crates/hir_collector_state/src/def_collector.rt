@@ -22,7 +22,7 @@ ghost use Rattle.hir_collector_rules.specs.Derivation.{collected_view, told_run}
 ghost use Rattle.hir_collector_rules.specs.Moves.{begun};
 ghost use Rattle.hir_collector_state.specs.Waiting.{IsNoted};
 
-use crate::def_collector::changes::note_variants;
+use crate::def_collector::changes::{note_variants, note_wanted};
 use hir_base::ast_id::{AstId, EditionedFileId, FileId, HirFileId};
 use hir_base::cfg_options::CfgOptions;
 use hir_base::ids::{
@@ -526,8 +526,9 @@ impl DefCollector {
         let Some(scope) = self.other_scope(world, name) else {
             return Ok(());
         };
-        self.changed.add_everything();
-        use_wanted(self.allocator(), &mut self.map, scope, attrs, by)?;
+        let alloc = self.allocator();
+        note_wanted(alloc, &mut self.changed, scope, attrs)?;
+        use_wanted(alloc, &mut self.map, scope, attrs, by)?;
         Ok(())
     }
 
