@@ -177,6 +177,13 @@ def called_modules_with_macro_use(n):
     return Input(*calls, *imports_of_one_struct(made, n), entries=made.entries, path=f"y{n - 1}")
 
 
+def modules_behind_macros(n):
+    """n macros, and behind them n modules with `macro_use` and without a macro of their own."""
+    made = Attributes()
+    macros = [made.rules(f"r{k}") for k in range(n)]
+    return Input(*macros, *(module_with_macro_use(made, k) for k in range(n)), made.struct("S"), path="S")
+
+
 def beside_a_crate_of_macros(made, nodes, path):
     """A session of a crate with a macro, and one with these nodes that depends on it as `d`."""
     exported = made.under(made.rules("exported"), "macro_export")
@@ -457,6 +464,7 @@ INPUTS = {
     modules_with_macro_use: 1000,
     modules_with_macros_of_their_own: 1000,
     called_modules_with_macro_use: 1000,
+    modules_behind_macros: 1000,
     called_crates_with_macro_use: 1000,
     calls_of_an_attribute: 1000,
     calls_of_a_textual_attribute: 1000,

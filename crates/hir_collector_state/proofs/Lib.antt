@@ -4,6 +4,7 @@ pub mod InOrder
 pub mod EnumMacros
 pub mod CallReads
 pub mod Noted
+mod SameMacros
 pub use Rattle.hir_collector_rules.proofs as HirCollectorRules
 pub use Rattle.hir_collector_start.proofs as HirCollectorStart
 pub use Rattle.hir_def_map_laws.proofs as HirDefMapLaws

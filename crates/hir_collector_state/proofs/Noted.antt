@@ -492,7 +492,7 @@ elsewhere (x ∷ xs) (suc at) change (suc k) low = elsewhere xs at change k (ome
 -- ---- each change of the map
 
 -- where each element at the place stays, all do
-unchanged_at : {A : Type 0} (xs : List A) (at : ℕ) (change : A → A) → ((x : A) → slice_get xs at ≡ Some x → change x ≡ x) → changed_at xs at change ≡ xs
+pub unchanged_at : {A : Type 0} (xs : List A) (at : ℕ) (change : A → A) → ((x : A) → slice_get xs at ≡ Some x → change x ≡ x) → changed_at xs at change ≡ xs
 unchanged_at [] at change stays = refl
 unchanged_at (x ∷ xs) zero change stays = ap (λ y. y ∷ xs) (stays x refl)
 unchanged_at (x ∷ xs) (suc at) change stays = ap (λ ys. x ∷ ys) (unchanged_at xs at change stays)

@@ -22,7 +22,9 @@ ghost use Rattle.hir_collector_rules.specs.Derivation.{collected_view, told_run}
 ghost use Rattle.hir_collector_rules.specs.Moves.{begun};
 ghost use Rattle.hir_collector_state.specs.Waiting.{IsNoted};
 
-use crate::def_collector::changes::{note_variants, note_wanted};
+use crate::def_collector::changes::{
+    has_same_textual, most_compared, note_variants, note_wanted,
+};
 use hir_base::ast_id::{AstId, EditionedFileId, FileId, HirFileId};
 use hir_base::cfg_options::CfgOptions;
 use hir_base::ids::{
@@ -338,6 +340,11 @@ impl DefCollector {
         ensures ok { OnOk result (core_in self.new ≡ with_map (core_in self.old) (with_textual_scope (core_in self.old).map home (textual_at (core_in self.old).map from))) }
         ensures noted { OnOk result (IsNoted self.old self.new) }
     {
+        let tried = self.reached.len().saturating_add(self.calls.len());
+        let most = most_compared(&self.changed, tried);
+        if has_same_textual(&self.map, home, from, most) {
+            return Ok(());
+        }
         self.changed.add_everything();
         textual::take(self.allocator(), &mut self.map, home, from)?;
         Ok(())

@@ -1,10 +1,10 @@
 //! Which slots may have changed.
-ghost use Rattle.std.specs.Prelude.{◌≡◌, IsSome, None, OnOk, map as list_map};
+ghost use Rattle.std.specs.Prelude.{◌≡◌, true, IsSome, None, OnOk, map as list_map};
 ghost use Rattle.hir_collector_rules.specs.HirDefMapRules.State.{variants_at};
 ghost use Rattle.hir_collector_rules.specs.HirImportRules.Changed.{everything};
 ghost use Rattle.hir_collector_rules.specs.HirItemTree.Collected.{numbered};
 ghost use Rattle.hir_collector_rules.specs.HirScope.Entries.{item_at};
-ghost use Rattle.hir_collector_rules.specs.Macros.{public_among, public_at, public_named, public_one, wanted_among};
+ghost use Rattle.hir_collector_rules.specs.Macros.{public_among, public_at, public_named, public_one, textual_at, wanted_among};
 ghost use Rattle.hir_collector_state.specs.MacroUses.{with_each};
 
 use hir_base::ids::EnumId;
@@ -26,6 +26,29 @@ pub fn note_variants(changed: &mut Changed, map: &DefMap, id: EnumId)
     if map.enum_variants(id).is_some() {
         changed.add_everything();
     }
+}
+
+/// How many macros may be compared where so many imports and calls were come upon: it is to cost less than to try these again,
+/// and nothing where all of them are tried again anyway.
+pub fn most_compared(changed: &Changed, tried: usize) -> usize {
+    if changed.is_everything() { 0 } else { tried }
+}
+
+/// Whether the same macros, and no more than so many, are in textual scope in two modules that are there.
+pub fn has_same_textual(map: &DefMap, home: u32, from: u32, most: usize) -> bool
+    ensures same { result ≡ true → textual_at map.now home ≡ textual_at map.now from }
+{
+    let Some(own) = map.scope(home) else {
+        return false;
+    };
+    let Some(other) = map.scope(from) else {
+        return false;
+    };
+    let macros = own.textual_scope();
+    if macros.len() > most {
+        return false;
+    }
+    *macros == *other.textual_scope()
 }
 
 /// Notes the name of a macro in the preludes, if it is public.
