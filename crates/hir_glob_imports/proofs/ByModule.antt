@@ -43,6 +43,16 @@ module _ (old new : List (ℕ × BroughtKeys)) (s : Slot) (by : Option Brought) 
           written q.key ∙ key_given (is_eq (key_order.ghosts.cmp s.key q.key)) by (brought_in had q.key)
           ∙ ap (λ x. if is_eq (key_order.ghosts.cmp s.key q.key) then by else x) here
 
+-- nothing changes where the keys of a module stay
+pub slot_stays : (old new : List (ℕ × BroughtKeys)) (s : Slot) (had : Option BroughtKeys) → lookup (is_at (nat_cmp s.at)) old ≡ had
+    → ((q : ℕ) → lookup (is_at (nat_cmp q)) new ≡ cond (is_at (nat_cmp s.at) q) had (lookup (is_at (nat_cmp q)) old))
+    → (q : Slot) → by_module new q ≡ by_module old q
+slot_stays old new s had found updates q = ap (λ o. brought_in o q.key) (updates q.at ∙ go (is_at (nat_cmp s.at) q.at) refl)
+  where
+    go : (b : Bool) → is_at (nat_cmp s.at) q.at ≡ b → cond b had (lookup (is_at (nat_cmp q.at)) old) ≡ lookup (is_at (nat_cmp q.at)) old
+    go false e = refl
+    go true e = sym found ∙ ap (λ at. lookup (is_at (nat_cmp at)) old) (exact_nat s.at q.at e)
+
 -- the first key of a module is written
 pub first_written : (old new : BroughtKeys) (key : Key) (by : Option Brought) → old ≡ []
     → ((q : Key) → brought_in (Some new) q ≡ cond (is_eq (key_order.ghosts.cmp key q)) by (brought_in (Some old) q))

@@ -5,7 +5,9 @@ pub mod Settling
 pub mod Updates
 pub mod Taking
 pub mod Resting
+pub mod Alike
 pub mod Linking
+pub mod Consistent
 pub mod Spreading
 pub mod Reopening
 pub mod Advancing

@@ -8,11 +8,12 @@ use Rattle.std.proofs.lemmas.List.Elements.{Contains-append_cases, Contains-push
 use Rattle.hir_glob_imports.specs.Types.{Bound, Brought, Edge, EdgesByModule, Key, Slot}
 use Rattle.hir_glob_imports.specs.declared.edge.Target.TheVariants.{Own}
 use Rattle.hir_scope.specs.HirPerNs.declared.visibility.Visibility.{Visibility}
-use Rattle.hir_glob_imports.specs.Inner.{Linked, IsIndexed, edges_at, first_matching, matching}
+use Rattle.hir_glob_imports.specs.Inner.{Linked, IsIndexed, OpensKeys, edges_at, first_matching, matching}
 use Rattle.hir_glob_imports.specs.Keys.{slot_at}
 use Rattle.hir_glob_imports.specs.Moves.{seen_by, shown, update_of}
 use Rattle.hir_glob_imports.specs.View.{View, bound_in}
 use Rattle.hir_glob_imports.specs.Waves.{GlobsValue, brought_of, edge_with_vis, has_same_ends, same_own, IsPendingOrSettled, IsKept}
+use Rattle.hir_glob_imports.proofs.Alike.{like_two}
 use Rattle.hir_glob_imports.proofs.Taking.{brought_by_list}
 
 module _ {A : Type 0} where
@@ -46,11 +47,19 @@ module _ (v : View) (at : ℕ) (e : Edge) (g h : GlobsValue) (linked : Linked v 
   same_brought q = λ i. brought_by_list h g linked.brought i q
 
   -- along the edge each key is to be looked at where its source has something
-  opened : (key : Key) (o : Option Bound) → v.bound e.source key ≡ o → IsPendingOrSettled v h at e key
-  opened key None none =
+  opened : ((key : Key) → IsSome (v.bound e.source key) → Contains h.pending (at, key)) → (key : Key) (o : Option Bound) → v.bound e.source key ≡ o
+      → IsPendingOrSettled v h at e key
+  opened each key None none =
       inr (ap (λ (o : Option Bound). update_of v at e key (seen_by (v.sees e.importer) o) (bound_in v (slot_at e.importer key))
       (brought_of h (slot_at e.importer key))) none)
-  opened key (Some b) some = inl (linked.open_keys key (subst (λ (o : Option Bound). IsSome o) (sym some) refl))
+  opened each key (Some b) some = inl (each key (subst (λ (o : Option Bound). IsSome o) (sym some) refl))
+
+  -- or nothing is to be done along it
+  on_keys : IsKept v g → OpensKeys v at e g h.pending → (key : Key) → IsPendingOrSettled v h at e key
+  on_keys kept (inr each) key = opened each key (v.bound e.source key) refl
+  on_keys kept (inl like) key =
+      inr (ap (λ (by : Option Brought). update_of v at e key (shown v e key) (bound_in v (slot_at e.importer key)) by) (same_brought (slot_at e.importer key))
+      ∙ like_two v g kept like.0 at e like.1 like.2 key)
 
   pub linked_keeps : v.has e.importer ≡ true → IsKept v g → IsKept v h
   linked_keeps has kept = record { there = there; settled = settled; stands = λ q by is. kept.stands q by (sym (same_brought q) ∙ is) }
@@ -75,7 +84,7 @@ module _ (v : View) (at : ℕ) (e : Edge) (g h : GlobsValue) (linked : Linked v 
           on (inl old) = still (kept.settled j d key old)
           on (inr new) =
               subst (λ (k : ℕ). IsPendingOrSettled v h k d key) (sym new.0)
-              (subst (λ (x : Edge). IsPendingOrSettled v h at x key) (sym new.1) (opened key (v.bound e.source key) refl))
+              (subst (λ (x : Edge). IsPendingOrSettled v h at x key) (sym new.1) (on_keys kept linked.opens key))
 
 -- ---- an edge with the same ends
 
@@ -218,9 +227,9 @@ indexed_set edges new d at vis out into there is indexed = record {
 pub linked_from : (v : View) (at : ℕ) (e : Edge) (g g0 h : GlobsValue) → g0 ≡ g → h.brought ≡ g0.brought
     → ((j : ℕ) (d : Edge) → slice_get h.edges j ≡ Some d → (slice_get g0.edges j ≡ Some d) ⊎ ((j ≡ at) × (d ≡ e)))
     → ((j : ℕ) (key : Key) → Contains g0.pending (j, key) → Contains h.pending (j, key))
-    → ((key : Key) → IsSome (v.bound e.source key) → Contains h.pending (at, key)) → Linked v at e g h
-linked_from v at e g g0 h view brought edges kept open_keys =
-    subst (λ (x : GlobsValue). Linked v at e x h) view (record { edges = edges; brought = brought; kept = kept; open_keys = open_keys })
+    → OpensKeys v at e g0 h.pending → Linked v at e g h
+linked_from v at e g g0 h view brought edges kept opens =
+    subst (λ (x : GlobsValue). Linked v at e x h) view (record { edges = edges; brought = brought; kept = kept; opens = opens })
 
 -- where an edge was added
 pub edges_added : (edges edges0 new : List Edge) (e : Edge) → edges0 ≡ edges → new ≡ edges0 ++ e ∷ [] → (j : ℕ) (d : Edge) → slice_get new j ≡ Some d

@@ -14,6 +14,7 @@ use Rattle.hir_scope.specs.HirIds.contracts.builtin_type.BuiltinUintOrd.TheImpl 
 use Rattle.hir_scope.specs.HirIds.contracts.builtin_type.BuiltinFloatOrd.TheImpl as float_order
 use Rattle.hir_scope.specs.HirIds.contracts.ids.AdtIdOrd.TheImpl as adt_order
 use Rattle.hir_scope.specs.HirIds.contracts.ids.EnumIdOrd.TheImpl as enum_order
+use Rattle.hir_scope.specs.HirIds.contracts.ids.EnumIdOrd.TheImpl.Laws.{matches_eq-law as enum_ties}
 use Rattle.hir_scope.specs.HirIds.contracts.ids.EnumVariantIdOrd.TheImpl as variant_order
 use Rattle.hir_scope.specs.HirIds.contracts.ids.ItemContainerIdOrd.TheImpl as container_order
 use Rattle.hir_scope.specs.HirIds.contracts.ids.ModuleDefIdOrd.TheImpl as def_order
@@ -65,10 +66,12 @@ use Rattle.hir_scope.specs.HirPerNs.declared.item_in_ns.ItemInNs.{ItemInNs}
 use Rattle.hir_scope.specs.HirPerNs.declared.item_in_ns.ItemInNs.TheVariants as in_ns
 use Rattle.hir_scope.specs.HirPerNs.declared.visibility.Visibility.{Visibility}
 use Rattle.hir_scope.specs.HirPerNs.declared.visibility.Visibility.TheVariants as visible
-use Rattle.hir_glob_imports.specs.Types.{Bound}
+use Rattle.hir_glob_imports.specs.Types.{Bound, Target}
 use Rattle.hir_glob_imports.specs.contracts.brought.SeenPartialEq.TheImpl as seen_eq
 use Rattle.hir_glob_imports.specs.contracts.edge.BoundPartialEq.TheImpl as bound_eq
+use Rattle.hir_glob_imports.specs.contracts.edge.TargetPartialEq.TheImpl as target_eq
 use Rattle.hir_glob_imports.specs.declared.brought.Seen.{Seen}
+use Rattle.hir_glob_imports.specs.declared.edge.Target.TheVariants as target
 use Rattle.hir_glob_imports.proofs.Exact.{exact_file, exact_in_block, exact_module, exact_syntax, exact_trait, first_tied, second_tied}
 
 -- ---- definitions
@@ -113,6 +116,9 @@ exact_adt (adt.StructId a) (adt.StructId b) e = λ i. adt.StructId (record { loc
 exact_adt (adt.UnionId a) (adt.UnionId b) e = λ i. adt.UnionId (record { loc = exact_item a.loc b.loc e i })
 exact_adt (adt.EnumId a) (adt.EnumId b) e = λ i. adt.EnumId (record { loc = exact_item a.loc b.loc e i })
 exact_adt a b e = absurd (true≢false (sym e))
+
+exact_enum : (a b : EnumId) → is_eq (enum_order.ghosts.cmp a b) ≡ true → a ≡ b
+exact_enum a b e = λ i. record { loc = exact_item a.loc b.loc e i }
 
 exact_variant : (a b : EnumVariantId) → is_eq (variant_order.ghosts.cmp a b) ≡ true → a ≡ b
 exact_variant a b e =
@@ -272,7 +278,7 @@ exact_explicit Explicit Explicit e = refl
 exact_explicit Implicit Implicit e = refl
 exact_explicit a b e = absurd (true≢false (sym e))
 
-exact_vis : (a b : Visibility) → vis_eq.ghosts.eq a b ≡ true → a ≡ b
+pub exact_vis : (a b : Visibility) → vis_eq.ghosts.eq a b ≡ true → a ≡ b
 exact_vis (visible.Module m x) (visible.Module n y) e =
     let same = exact_module m n (sym (module_ties m n) ∙ first_so (module_eq.ghosts.eq m n) (explicit_eq.ghosts.eq x y) e) in
     let alike = exact_explicit x y (second_so (module_eq.ghosts.eq m n) (explicit_eq.ghosts.eq x y) e) in
@@ -294,3 +300,13 @@ exact_seen a b e = λ i. record {
   bound = exact_bound a.bound b.bound (first_so (bound_eq.ghosts.eq a.bound b.bound) (vis_eq.ghosts.eq a.edge_vis b.edge_vis) e) i;
   edge_vis = exact_vis a.edge_vis b.edge_vis (second_so (bound_eq.ghosts.eq a.bound b.bound) (vis_eq.ghosts.eq a.edge_vis b.edge_vis) e) i;
 }
+
+-- ---- what edges lead from
+
+pub exact_target : (a b : Target) → target_eq.ghosts.eq a b ≡ true → a ≡ b
+exact_target (target.Own m) (target.Own n) e = ap target.Own ((unsigned_Decides m n).0 e)
+exact_target (target.Module a) (target.Module b) e = ap target.Module (exact_module a b (sym (module_ties a b) ∙ e))
+exact_target (target.Enum a) (target.Enum b) e =
+    let same : a ≡ b = exact_enum a b (sym (enum_ties a b) ∙ e) in
+    ap target.Enum same
+exact_target a b e = absurd (true≢false (sym e))

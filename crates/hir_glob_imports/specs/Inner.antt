@@ -1,8 +1,10 @@
 -- Words of private code.
-use Rattle.std.specs.Prelude.{◌≡◌, ◌⊎◌, ◌+◌, ℕ, Bool, true, false, List, [], ◌∷◌, Option, None, Some, IsSome, Contains, slice_get, if◌then◌else◌}
+use Rattle.std.specs.Prelude.{◌≡◌, ◌≢◌, ◌⊎◌, ◌+◌, ◌<◌, ◌&&◌, ◌==◌, ℕ, Bool, true, false, List, [], ◌∷◌, Option, None, Some, IsSome, Contains, length, slice_get}
+use Rattle.std.specs.Prelude.{if◌then◌else◌}
 use Rattle.hir_scope.specs.Bindings.{first_of}
 use Rattle.std.specs.Ordering.{nat_cmp}
-use Rattle.std.specs.BTreeMap.{get}
+use Rattle.std.specs.BTreeMap.{get, is_at}
+use Rattle.std.specs.Map.{lookup}
 use Rattle.std.specs.declared.vec.Vec.{Vec}
 use Rattle.std.specs.declared.alloc.Global.{Global}
 use Rattle.hir_glob_imports.specs.declared.edge.Edge.{Edge}
@@ -11,6 +13,9 @@ use Rattle.hir_glob_imports.specs.declared.index.EdgesByModule.{EdgesByModule}
 use Rattle.hir_glob_imports.specs.declared.edge.Brought.{Brought}
 use Rattle.hir_glob_imports.specs.declared.edge.Key.{Key}
 use Rattle.hir_glob_imports.specs.declared.edge.Slot.{Slot}
+use Rattle.hir_glob_imports.specs.contracts.edge.TargetPartialEq.TheImpl as target_eq
+use Rattle.hir_glob_imports.specs.ByModule.{BroughtKeys, brought_in}
+use Rattle.hir_glob_imports.specs.Moves.{same_vis}
 use Rattle.hir_glob_imports.specs.Rules.{GlobState, Step, slot_of}
 use Rattle.hir_glob_imports.specs.View.{View, NameTable}
 use Rattle.hir_glob_imports.specs.Waves.{GlobsValue, Stands, IsPendingOrSettled, brought_of, has_same_ends, state_of}
@@ -27,6 +32,12 @@ edges_at edges at = items_or_none (get nat_cmp edges.lists at)
 pub record IsIndexed (edges : List Edge) (out_of into : EdgesByModule) : Type 0 where
   pub out : (j m : ℕ) (e : Edge) → slice_get edges j ≡ Some e → e.source ≡ Own m → Contains (edges_at out_of m) j
   pub inward : (j : ℕ) (e : Edge) → slice_get edges j ≡ Some e → Contains (edges_at into e.importer) j
+
+-- what is kept of edges and of what they brought fits together
+pub record IsConsistent (edges : List Edge) (brought : List (ℕ × BroughtKeys)) (out_of into : EdgesByModule) : Type 0 where
+  pub indexed : IsIndexed edges out_of into
+  -- each edge that brought something was recorded
+  pub recorded : (s : Slot) (by : Brought) → brought_in (lookup (is_at (nat_cmp s.at)) brought) s.key ≡ Some by → by.edge < length edges
 
 -- what holds of globs while an edge is looked at in a slot, where something may be to be done
 pub record IsKeptBut (v : View) (g : GlobsValue) (at : ℕ) (s : Slot) : Type 0 where
@@ -61,12 +72,43 @@ pub record Takes {S : Type 0} (t : NameTable S) (s : Slot) (n : S) (g : GlobsVal
   pub slot_is : slot_of step.rule ≡ s
   pub counted : count' ≡ count + 1
 
--- an edge is recorded at its number, the others stay, and what its source has is to be looked at along it
+-- both edges bring the same: they have the same source, importer and visibility
+abbrev pub is_alike : Edge → Edge → Bool
+is_alike d e = target_eq.ghosts.eq d.source e.source && ((d.importer == e.importer) && same_vis d.vis e.vis)
+
+-- the edge of a number brings what another one does
+pub record IsAlikeAt (edges : List Edge) (e : Edge) (j : ℕ) : Type 0 where
+  pub other : Edge
+  pub recorded : slice_get edges j ≡ Some other
+  pub alike : is_alike other e ≡ true
+
+-- two edges bring what another one does
+pub record HasTwoAlike (edges : List Edge) (e : Edge) : Type 0 where
+  pub one : ℕ
+  pub other : ℕ
+  pub first : IsAlikeAt edges e one
+  pub second : IsAlikeAt edges e other
+  pub apart : one ≢ other
+
+-- an edge is to be looked at where its source has something, unless nothing was to be looked at and two edges are like it
+abbrev pub IsOpened : View → List Edge → ℕ → Edge → List (ℕ × Key) → List (ℕ × Key) → Type 0
+IsOpened v edges at e old new = ((old ≡ []) × HasTwoAlike edges e) ⊎ ((key : Key) → IsSome (v.bound e.source key) → Contains new (at, key))
+
+-- along an edge of this number nothing was brought yet
+abbrev pub IsUnused : ℕ → GlobsValue → Type 0
+IsUnused at g = (s : Slot) (by : Brought) → brought_of g s ≡ Some by → by.edge ≢ at
+
+-- what the source of an edge has is to be looked at along it, unless it is new and two edges are like it
+abbrev pub OpensKeys : View → ℕ → Edge → GlobsValue → List (ℕ × Key) → Type 0
+OpensKeys v at e old new = ((old.pending ≡ []) × HasTwoAlike old.edges e × IsUnused at old)
+    ⊎ ((key : Key) → IsSome (v.bound e.source key) → Contains new (at, key))
+
+-- an edge is recorded at its number, the others stay, and what its source has is to be looked at along it if that isn't there
 pub record Linked (v : View) (at : ℕ) (e : Edge) (old new : GlobsValue) : Type 0 where
   pub edges : (j : ℕ) (d : Edge) → slice_get new.edges j ≡ Some d → (slice_get old.edges j ≡ Some d) ⊎ ((j ≡ at) × (d ≡ e))
   pub brought : new.brought ≡ old.brought
   pub kept : (j : ℕ) (key : Key) → Contains old.pending (j, key) → Contains new.pending (j, key)
-  pub open_keys : (key : Key) → IsSome (v.bound e.source key) → Contains new.pending (at, key)
+  pub opens : OpensKeys v at e old new.pending
 
 -- an edge with its number, where it has the same ends
 abbrev pub matching : Edge → ℕ → Option Edge → Option (ℕ × Edge)

@@ -1,5 +1,5 @@
 //! Which edges brought what stands in slots, by module.
-ghost use Rattle.std.specs.Prelude.{◌≡◌, None, Some, IfOk, IfSome, OnOk, cond};
+ghost use Rattle.std.specs.Prelude.{◌≡◌, None, Some, IfOk, IfSome, OnErr, OnOk, cond};
 ghost use Rattle.std.specs.BTreeMap.{is_at};
 ghost use Rattle.std.specs.Map.{lookup};
 ghost use Rattle.std.specs.Ordering.{is_eq, nat_cmp};
@@ -215,6 +215,7 @@ pub(crate) fn brought_at(modules: &BTreeMap<u32, BroughtKeys>, slot: &Slot) -> O
 fn write_among(keys: &mut BroughtKeys, key: &Key, by: Bringer) -> Result<(), AllocError>
     ensures ok { OnOk result ((other : Key) → lookup (is_at (key_order.ghosts.cmp other)) keys.new
         ≡ cond (is_eq (key_order.ghosts.cmp key.now other)) (Some by) (lookup (is_at (key_order.ghosts.cmp other)) keys.old)) }
+    ensures err { OnErr result (keys.new ≡ keys.old) }
 {
     keys.insert(key.clone()?, by)
 }
@@ -228,6 +229,8 @@ pub(crate) fn write_brought(
 ) -> Result<(), AllocError>
     ensures ok { OnOk result ((other : Slot) → brought_in (lookup (is_at (nat_cmp other.at)) modules.new.entries) other.key
         ≡ with_brought (λ s. brought_in (lookup (is_at (nat_cmp s.at)) modules.old.entries) s.key) slot.now (Some by) other) }
+    ensures err { OnErr result ((other : Slot) → brought_in (lookup (is_at (nat_cmp other.at)) modules.new.entries) other.key
+        ≡ brought_in (lookup (is_at (nat_cmp other.at)) modules.old.entries) other.key) }
 {
     match modules.get_mut(&slot.at) {
         Some(keys) => write_among(keys, &slot.key, by),
@@ -245,6 +248,8 @@ fn write_first(
     requires absent { lookup (is_at (nat_cmp slot.now.at)) modules.old.entries ≡ None }
     ensures ok { OnOk result ((other : Slot) → brought_in (lookup (is_at (nat_cmp other.at)) modules.new.entries) other.key
         ≡ with_brought (λ s. brought_in (lookup (is_at (nat_cmp s.at)) modules.old.entries) s.key) slot.now (Some by) other) }
+    ensures err { OnErr result ((other : Slot) → brought_in (lookup (is_at (nat_cmp other.at)) modules.new.entries) other.key
+        ≡ brought_in (lookup (is_at (nat_cmp other.at)) modules.old.entries) other.key) }
 {
     let mut keys = BroughtKeys::new(alloc);
     write_among(&mut keys, &slot.key, by)?;

@@ -38,14 +38,14 @@ impl Drop for GlobImports {
 }
 
 impl Model for GlobImports {
-    ghost use Rattle.hir_glob_imports.specs.Inner.{IsIndexed};
+    ghost use Rattle.hir_glob_imports.specs.Inner.{IsConsistent};
     ghost use Rattle.hir_glob_imports.specs.Waves.{GlobsValue};
 
     ghost Value = { GlobsValue };
 
     ghost view = { λ g. record { edges = g.edges.items; brought = g.brought.entries; pending = g.pending.items } };
 
-    ghost invariant = { λ g. IsIndexed g.edges.items g.out_of g.into };
+    ghost invariant = { λ g. IsConsistent g.edges.items g.brought.entries g.out_of g.into };
 }
 
 impl GlobImports {

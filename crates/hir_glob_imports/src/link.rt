@@ -1,9 +1,9 @@
 //! Recording globs.
-ghost use Rattle.std.specs.Prelude.{◌≡◌, ◌++◌, ◌∷◌, [], ◌<◌, ℕ, true, false, Some, IfSome, IfNone, IsSome, OnOk, Contains, length, slice_get, slice_set};
+ghost use Rattle.std.specs.Prelude.{◌≡◌, ◌≢◌, ◌++◌, ◌∷◌, [], ◌<◌, ℕ, true, false, Some, IfSome, IfNone, IsSome, OnOk, Contains, length, slice_get, slice_set};
 ghost use Rattle.hir_glob_imports.specs.declared.edge.Edge.{Edge};
 ghost use Rattle.hir_glob_imports.specs.declared.edge.Key.{Key};
 ghost use Rattle.hir_glob_imports.specs.declared.edge.Target.TheVariants.{Own};
-ghost use Rattle.hir_glob_imports.specs.Inner.{Linked, edges_at, first_matching, matching};
+ghost use Rattle.hir_glob_imports.specs.Inner.{HasTwoAlike, IsAlikeAt, IsOpened, Linked, edges_at, first_matching, is_alike, matching};
 ghost use Rattle.hir_glob_imports.specs.Waves.{IsKept, Records, edge_with_vis, has_same_ends, wider_of};
 
 use crate::edge::{Edge, Key, Target};
@@ -98,6 +98,82 @@ pub(crate) fn add_keys(
     Ok(())
 }
 
+/// Whether an edge brings what another one does: both have the same source, importer and visibility.
+fn is_alike(one: Edge, other: Edge) -> bool
+    ensures value { result ≡ is_alike one other }
+{
+    one.source == other.source && one.importer == other.importer && one.vis == other.vis
+}
+
+/// Whether the edge of a number brings what another one does.
+fn is_alike_at(edges: &[Edge], j: usize, edge: Edge) -> bool
+    ensures alike { result ≡ true → IsAlikeAt edges.now edge j }
+{
+    match edges.get(j) {
+        Some(other) => is_alike(*other, edge),
+        None => false,
+    }
+}
+
+/// Whether a number is another one than that which is left out.
+fn is_other(left_out: Option<usize>, j: usize) -> bool
+    ensures other { result ≡ true → left_out ≢ Some j }
+{
+    match left_out {
+        Some(i) => i != j,
+        None => true,
+    }
+}
+
+/// The first of some edges that brings what another one does, one of them left out.
+fn first_alike(
+    edges: &[Edge],
+    listed: &[usize],
+    edge: Edge,
+    left_out: Option<usize>,
+) -> Option<usize>
+    ensures alike { IfSome result (λ j. IsAlikeAt edges.now edge j) }
+    ensures other { IfSome result (λ j. left_out ≢ Some j) }
+{
+    for j in listed {
+        if is_other(left_out, *j) && is_alike_at(edges, *j, edge) {
+            return Some(*j);
+        }
+    }
+    None
+}
+
+/// Whether two of some edges bring what another one does.
+fn has_two_alike(edges: &[Edge], listed: &[usize], edge: Edge) -> bool
+    ensures two { result ≡ true → HasTwoAlike edges.now edge }
+{
+    match first_alike(edges, listed, edge, None) {
+        Some(one) => first_alike(edges, listed, edge, Some(one)).is_some(),
+        None => false,
+    }
+}
+
+/// A new edge is to be looked at at each key at which its source has something, unless nothing is left to be looked at and
+/// two edges bring what it does: what one of the two brought the other one raised already, as the new one would.
+fn open_new<N: Names>(
+    pending: &mut Vec<(usize, Key)>,
+    alloc: Global,
+    names: &N,
+    edges: &[Edge],
+    listed: &[usize],
+    edge: Edge,
+) -> Result<(), AllocError>
+    ensures kept { OnOk result ((j : ℕ) (other : Key)
+        → Contains pending.old.items (j, other) → Contains pending.new.items (j, other)) }
+    ensures opened { OnOk result (IsOpened (N.table.view names.now) edges.now (length edges.now) edge pending.old.items pending.new.items) }
+{
+    if pending.is_empty() && has_two_alike(edges, listed, edge) {
+        return Ok(());
+    }
+    let keys = names.keys(alloc, edge.source)?;
+    add_keys(pending, edges.len(), keys)
+}
+
 impl GlobImports {
     /// The edge of the map that has the same ends, where one was recorded.
     fn edge_with_ends(&self, edge: Edge) -> Option<(usize, Edge)>
@@ -112,9 +188,15 @@ impl GlobImports {
         ensures linked { OnOk result (Linked (N.table.view names.now) (length self.old.edges) edge self.old self.new) }
         ensures added { OnOk result (self.new.edges ≡ self.old.edges ++ edge ∷ []) }
     {
-        let keys = names.keys(alloc, edge.source)?;
+        open_new(
+            &mut self.pending,
+            alloc,
+            names,
+            self.edges.as_slice(),
+            self.into.at(edge.importer),
+            edge,
+        )?;
         let j = self.edges.len();
-        add_keys(&mut self.pending, j, keys)?;
         self.into.add(edge.importer, j)?;
         add_out(&mut self.out_of, edge.source, j)?;
         self.edges.push(edge)?;

@@ -1,5 +1,5 @@
 //! Steps along edges.
-ghost use Rattle.std.specs.Prelude.{◌≡◌, ◌+◌, ◌≤◌, true, false, Some, OnOk, IfOk, slice_get};
+ghost use Rattle.std.specs.Prelude.{◌≡◌, ◌+◌, ◌≤◌, ◌<◌, length, true, false, Some, OnOk, IfOk, slice_get};
 ghost use Rattle.hir_glob_imports.specs.declared.edge.Update.TheVariants.{Nothing, Copy, Follow, Raise};
 ghost use Rattle.hir_glob_imports.specs.Inner.{IsKeptBut, Takes};
 ghost use Rattle.hir_glob_imports.specs.Rules.{after, copies_along, follows_along, noted, IsSpent};
@@ -51,6 +51,7 @@ fn tick(count: &mut u32) -> Result<(), GlobError>
 impl GlobImports {
     /// Notes what brought a slot along an edge out of a source; of a trait without a name it isn't kept.
     fn note(&mut self, slot: &Slot, source: Target, by: Brought) -> Result<(), AllocError>
+        requires recorded { by.edge < length self.old.edges }
         ensures ok { OnOk result (brought_of self.new ≡ noted (brought_of self.old) slot.now by) }
         ensures edges { self.new.edges ≡ self.old.edges }
         ensures pending { self.new.pending ≡ self.old.pending }
@@ -72,6 +73,7 @@ impl GlobImports {
         slot: &Slot,
         shown: Bound,
     ) -> Result<(), GlobError>
+        requires recorded { j < length self.old.edges }
         requires there { (N.table.view names.old).bound edge.source slot.now.key ≡ Some shown }
         requires small { count.old ≤ MAX_STEPS }
         ensures is { OnOk result (state_of names.new self.new count.new
@@ -104,6 +106,7 @@ impl GlobImports {
         slot: &Slot,
         shown: Bound,
     ) -> Result<(), GlobError>
+        requires recorded { j < length self.old.edges }
         requires there { (N.table.view names.old).bound edge.source slot.now.key ≡ Some shown }
         requires small { count.old ≤ MAX_STEPS }
         ensures is { OnOk result (state_of names.new self.new count.new

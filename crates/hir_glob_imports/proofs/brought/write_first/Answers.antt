@@ -7,4 +7,5 @@ returns c = record {
   ok = slot_written c.args.modules.now.entries c.insert.new.self.entries c.args.slot.now (Some c.args.by) None (Some c.write_among.new.keys) c.requires.absent
       c.in_ok-insert.ensures.updates.0
       (first_written c.new-keys.result c.write_among.new.keys c.args.slot.now.key (Some c.args.by) c.new-keys.ensures.value c.in_ok-write_among.ensures.ok);
+  err = tt;
 }

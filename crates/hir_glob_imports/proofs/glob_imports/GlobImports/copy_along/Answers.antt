@@ -1,10 +1,14 @@
 -- The step is written, and the edges around the slot are to be looked at.
 use Rattle.std.proofs.Common.{subst, Bool, rules}
+use Rattle.std.proofs.lemmas.Option.{slice_get_within}
 use Rattle.hir_glob_imports.specs.Inner.{Spreads}
 use Rattle.hir_glob_imports.specs.Rules.{copies_along}
 use Rattle.hir_glob_imports.specs.Waves.{state_of}
 use Rattle.hir_glob_imports.proofs.Taking.{copy_keeps, copy_takes, copies_there, may_copy, spent_by}
 use Rattle.hir_glob_imports.proofs.glob_imports.GlobImports.copy_along.Goals as goal
+
+pub copy-requires-clause-recorded : goal.copy-requires-clause-recorded
+copy-requires-clause-recorded g c = slice_get_within c.args.self.now.edges c.args.j c.args.edge c.requires.recorded
 
 pub copy-requires-clause-there : goal.copy-requires-clause-there
 copy-requires-clause-there g c =

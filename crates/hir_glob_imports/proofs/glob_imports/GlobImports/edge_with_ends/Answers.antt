@@ -16,5 +16,5 @@ returns c =
       absent =
           ends_absent c.args.edge c.args.self.now.edges c.self.inside.edges.items c.self.inside.out_of c.self.inside.into c.at.result.now
           c.first_matching.result same
-          c.self.invariant c.at.ensures.value is;
+          c.self.invariant.indexed c.at.ensures.value is;
     }

@@ -1,9 +1,13 @@
 -- The step is written, and the edges around the slot are to be looked at.
 use Rattle.std.proofs.Common.{rules}
+use Rattle.std.proofs.lemmas.Option.{slice_get_within}
 use Rattle.hir_glob_imports.specs.Rules.{follows_along}
 use Rattle.hir_glob_imports.specs.Waves.{state_of}
 use Rattle.hir_glob_imports.proofs.Taking.{follow_keeps, follow_takes, follows_there, may_follow, spent_by}
 use Rattle.hir_glob_imports.proofs.glob_imports.GlobImports.follow_along.Goals as goal
+
+pub follow-requires-clause-recorded : goal.follow-requires-clause-recorded
+follow-requires-clause-recorded g c = slice_get_within c.args.self.now.edges c.args.j c.args.edge c.requires.recorded
 
 pub follow-requires-clause-there : goal.follow-requires-clause-there
 follow-requires-clause-there g c =
