@@ -49,24 +49,19 @@ use hir_use_tree::use_tree::place_after;
 use std::alloc::{AllocError, Global};
 use std::rc::Rc;
 
-/// Whether a name is one of these.
-fn is_among(names: &[Name], name: &Name) -> bool
-    ensures value { result ≡ is_among names.now name.now }
+/// Whether a name is that of a registered tool.
+fn is_registered(map: &DefMap, name: &Name) -> bool
+    ensures value { result ≡ is_among map.now.crate_data.registered_tools name.now }
 {
-    for other in names {
-        if *other == *name {
-            return true;
-        }
-    }
-    false
+    map.crate_data().is_registered_tool(name)
 }
 
 /// Whether a path is that of a tool's attribute.
-fn is_tool(tools: &[Name], path: &ModPath) -> bool
-    ensures value { result ≡ is_tool tools.now path.now.kind path.now.segments }
+fn is_tool(map: &DefMap, path: &ModPath) -> bool
+    ensures value { result ≡ is_tool map.now.crate_data.registered_tools path.now.kind path.now.segments }
 {
     match (path.kind(), path.segments()) {
-        (PathKind::Plain, [tool, _, ..]) => is_among(tools, tool),
+        (PathKind::Plain, [tool, _, ..]) => is_registered(map, tool),
         _ => false,
     }
 }
@@ -77,7 +72,7 @@ fn is_passed(map: &DefMap, node: AstId, attr: &Attr) -> bool
 {
     let path = &attr.meta.path;
     is_inert_by_name(path)
-        || is_tool(map.crate_data().registered_tools(), path)
+        || is_tool(map, path)
         || is_helper(map, node, path)
 }
 

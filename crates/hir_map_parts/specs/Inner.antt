@@ -1,3 +1,4 @@
 pub mod Codes
 pub mod LocalHash
 pub mod MacroEquality
+pub mod NameSets

@@ -7,7 +7,8 @@ ghost use Rattle.std.specs.List.Sorted.{IsStrictlySortedBy};
 ghost use Rattle.std.specs.BTreeSet.{insert_key};
 ghost use Rattle.hir_per_ns.specs.ModuleTree.{same_crate};
 ghost use Rattle.hir_map_parts.specs.State.{new_data};
-ghost use Rattle.hir_map_parts.specs.Reads.{feature_in};
+ghost use Rattle.hir_map_parts.specs.Inner.NameSets.{HasNames};
+ghost use Rattle.hir_map_parts.specs.Reads.{feature_in, tool_in};
 
 use hir_base::edition::Edition;
 use hir_base::ids::Crate;
@@ -25,6 +26,8 @@ use std::rc::Rc;
 pub struct DefMapCrateData {
     edition: Edition,
     registered_tools: Vec<Name>,
+    /// The names of the registered tools, to look them up.
+    tool_names: BTreeSet<Name>,
     features: BTreeSet<Name>,
     rustc_coherence_is_core: bool,
     no_core: bool,
@@ -37,6 +40,10 @@ impl Model for DefMapCrateData {
     ghost use Rattle.hir_map_parts.specs.State.{CrateData};
 
     ghost Value = { CrateData };
+
+    ghost use Rattle.hir_map_parts.specs.Inner.NameSets.{HasNames};
+
+    ghost invariant = { λ d. HasNames d.tool_names.keys d.registered_tools.items };
 
     ghost view = { λ d. record {
       edition = d.edition;
@@ -58,6 +65,7 @@ impl DefMapCrateData {
         DefMapCrateData {
             edition,
             registered_tools: Vec::new(alloc),
+            tool_names: BTreeSet::new(alloc),
             features: BTreeSet::new(alloc),
             rustc_coherence_is_core: false,
             no_core: false,
@@ -74,7 +82,8 @@ impl DefMapCrateData {
         Ok(DefMapCrateData {
             edition: self.edition,
             registered_tools: copied_tools(alloc, self.registered_tools.as_slice())?,
-            features: copied_features(alloc, &self.features)?,
+            tool_names: copied_names(alloc, &self.tool_names)?,
+            features: copied_names(alloc, &self.features)?,
             rustc_coherence_is_core: self.rustc_coherence_is_core,
             no_core: self.no_core,
             no_std: self.no_std,
@@ -170,8 +179,14 @@ impl DefMapCrateData {
         ensures ok { OnOk result (self.new ≡ record self.old { registered_tools = self.old.registered_tools ++ name ∷ [] }) }
         ensures err { OnErr result (self.new ≡ self.old) }
     {
-        self.registered_tools.push(name)?;
-        Ok(())
+        add_name(&mut self.registered_tools, &mut self.tool_names, name)
+    }
+
+    /// Whether a name is that of a registered tool.
+    pub fn is_registered_tool(&self, name: &Name) -> bool
+        ensures value { result ≡ tool_in self.now name.now }
+    {
+        self.tool_names.contains(name)
     }
 
     /// Whether the crate lists an unstable feature.
@@ -200,19 +215,40 @@ fn copied_tools(alloc: Global, tools: &[Name]) -> Result<Vec<Name>, AllocError>
     Ok(copy)
 }
 
-/// The features are in order.
-fn features_ascend(features: &BTreeSet<Name>)
-    ensures ordered { IsStrictlySortedBy (slice_cmp nat_cmp) features.now.keys }
+/// Adds a name to a list, and to the set of the names in it.
+fn add_name(
+    list: &mut Vec<Name>,
+    names: &mut BTreeSet<Name>,
+    name: Name,
+) -> Result<(), AllocError>
+    ensures ok { OnOk result (list.new.items ≡ list.old.items ++ name ∷ []) }
+    ensures err { OnErr result (list.new.items ≡ list.old.items) }
+    ensures names { HasNames names.old.keys list.old.items → HasNames names.new.keys list.new.items }
 {
-    let _ = features.len();
+    let before = list.len();
+    list.push(name.clone()?)?;
+    match names.insert(name) {
+        Ok(_) => Ok(()),
+        Err(error) => {
+            list.truncate(before);
+            Err(error.into())
+        }
+    }
 }
 
-fn copied_features(alloc: Global, features: &BTreeSet<Name>) -> Result<BTreeSet<Name>, AllocError>
-    ensures value { IfOk result (λ copy. copy.keys ≡ features.now.keys) }
+/// The names of a set are in order.
+fn names_ascend(names: &BTreeSet<Name>)
+    ensures ordered { IsStrictlySortedBy (slice_cmp nat_cmp) names.now.keys }
 {
-    features_ascend(features);
+    let _ = names.len();
+}
+
+fn copied_names(alloc: Global, names: &BTreeSet<Name>) -> Result<BTreeSet<Name>, AllocError>
+    ensures value { IfOk result (λ copy. copy.keys ≡ names.now.keys) }
+{
+    names_ascend(names);
     let mut copy = BTreeSet::new(alloc);
-    let mut left = features.iter();
+    let mut left = names.iter();
     'next: while let Some(name) = left.next() {
         copy.insert(name.clone()?)?;
     }
