@@ -1,5 +1,7 @@
 //! Derive helpers: attributes that derive macros bring into scope on an item.
 ghost use Rattle.std.specs.Prelude.{◌≡◌, ◌++◌, ◌∷◌, [], Some, IfOk, OnOk, OnErr, is_some};
+ghost use Rattle.std.specs.List.{list_any};
+ghost use Rattle.std.specs.Str.{bytes_eq};
 ghost use Rattle.std.specs.BTreeMap.{is_at};
 ghost use Rattle.std.specs.Map.{lookup};
 ghost use Rattle.hir_ids.specs.contracts.ast_id.AstIdOrd.TheImpl as ast_order;
@@ -10,7 +12,7 @@ use hir_base::ast_id::{AstId, MacroCallId};
 use hir_base::macro_kind::{BuiltinDeriveImplId, MacroId};
 use hir_base::name::Name;
 use std::alloc::{AllocError, Global};
-use std::collections::BTreeMap;
+use std::collections::{BTreeMap, BTreeSet};
 use std::marker::Model;
 
 /// A derive helper: its name, the derive macro that brings it, and the call or the builtin impl that this became; none of
@@ -26,6 +28,8 @@ pub struct DeriveHelper {
 #[derive(Drop)]
 pub struct DeriveHelpers {
     helpers: Vec<DeriveHelper>,
+    /// The names of the helpers, to look them up.
+    names: BTreeSet<Name>,
 }
 
 impl Model for DeriveHelpers {
@@ -33,6 +37,11 @@ impl Model for DeriveHelpers {
     ghost use Rattle.hir_map_parts.specs.declared.derive_helpers.DeriveHelper.{DeriveHelper};
 
     ghost Value = { List DeriveHelper };
+
+    ghost use Rattle.std.specs.Prelude.{map};
+    ghost use Rattle.hir_map_parts.specs.Inner.NameSets.{HasNames};
+
+    ghost invariant = { λ h. HasNames h.names.keys (map (λ (x : DeriveHelper). x.name) h.helpers.items) };
 
     ghost view = { λ h. h.helpers.items };
 }
@@ -42,9 +51,11 @@ impl DeriveHelpers {
     pub fn of(alloc: Global, helper: DeriveHelper) -> Result<DeriveHelpers, AllocError>
         ensures ok { IfOk result (λ helpers. helpers ≡ helper ∷ []) }
     {
+        let mut names = BTreeSet::new(alloc);
+        names.insert(helper.name.clone()?)?;
         let mut helpers = Vec::new(alloc);
         helpers.push(helper)?;
-        Ok(DeriveHelpers { helpers })
+        Ok(DeriveHelpers { helpers, names })
     }
 
     pub fn as_slice(&self) -> &[DeriveHelper]
@@ -58,8 +69,23 @@ impl DeriveHelpers {
         ensures ok { OnOk result (self.new ≡ self.old ++ helper ∷ []) }
         ensures err { OnErr result (self.new ≡ self.old) }
     {
+        let name = helper.name.clone()?;
+        let before = self.helpers.len();
         self.helpers.push(helper)?;
-        Ok(())
+        match self.names.insert(name) {
+            Ok(_) => Ok(()),
+            Err(error) => {
+                self.helpers.truncate(before);
+                Err(error.into())
+            }
+        }
+    }
+
+    /// Whether one of them has a name.
+    pub fn has(&self, name: &Name) -> bool
+        ensures value { result ≡ list_any (λ h. bytes_eq h.name name.now) self.now }
+    {
+        self.names.contains(name)
     }
 }
 

@@ -1,11 +1,14 @@
 //! The macros of a def map, the attributes that its derives bring, and what went wrong.
-ghost use Rattle.std.specs.Prelude.{◌≡◌, ◌++◌, ◌∷◌, [], option_map, OnOk, OnErr};
+ghost use Rattle.std.specs.Prelude.{◌≡◌, ◌++◌, ◌∷◌, [], option_map, unwrap_or, OnOk, OnErr};
+ghost use Rattle.std.specs.List.{list_any};
+ghost use Rattle.std.specs.Str.{bytes_eq};
 ghost use Rattle.hir_def_map_rules.specs.Macros.{exporting_function, helpers_at, macro_at, macro_data_at, proc_macro_at, with_derive_helper, with_diagnostic, with_exported, with_macro_data, with_macro_def};
 
 use crate::nameres::DefMap;
 use hir_base::ast_id::AstId;
 use hir_base::ids::FunctionId;
 use hir_base::macro_kind::{MacroId, ProcMacroId};
+use hir_base::name::Name;
 use hir_def_map_rules::derive_helpers::{DeriveHelper, DeriveHelpers, push_helper};
 use hir_def_map_rules::diagnostics::{DefDiagnostic, DefDiagnostics};
 use hir_def_map_rules::macro_data::MacroData;
@@ -98,6 +101,16 @@ impl DefMap {
         match self.derive_helpers.get(&item) {
             Some(helpers) => Some(helpers.as_slice()),
             None => None,
+        }
+    }
+
+    /// Whether a derive helper of a name is in scope on an item.
+    pub fn has_derive_helper(&self, item: AstId, name: &Name) -> bool
+        ensures value { result ≡ list_any (λ h. bytes_eq h.name name.now) (unwrap_or (helpers_at self.now item) []) }
+    {
+        match self.derive_helpers.get(&item) {
+            Some(helpers) => helpers.has(name),
+            None => false,
         }
     }
 
