@@ -71,9 +71,7 @@ fn is_passed(map: &DefMap, node: AstId, attr: &Attr) -> bool
     ensures value { result ≡ is_passed map.now node (numbered attr.now) }
 {
     let path = &attr.meta.path;
-    is_inert_by_name(path)
-        || is_tool(map, path)
-        || is_helper(map, node, path)
+    is_inert_by_name(path) || is_tool(map, path) || is_helper(map, node, path)
 }
 
 /// The place of the next attribute on a node for which something is looked up, where so many are done with.

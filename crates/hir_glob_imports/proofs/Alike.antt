@@ -1,10 +1,10 @@
 -- Two edges that bring what a third one does leave nothing to be done along it.
-use Rattle.std.proofs.Common.{◌≡◌, ◌∙◌, ap, sym, subst, refl, ℕ, Bool, true, false, ◌==◌, ◌&&◌, ◌≢◌, inl, inr, List, [], Option, None, Some, is_some, arith, slice_get}
+use Rattle.std.proofs.Common.{◌≡◌, ◌∙◌, ap, sym, subst, refl, ℕ, Bool, true, false, ◌==◌, ◌&&◌, ◌≢◌, inl, inr, List, [], Option, None, Some, is_some, arith}
 use Rattle.std.proofs.Common.{if◌then◌else◌}
 use mathlib.Core.Bool.{true≢false}
-use Rattle.std.specs.Prelude.{Contains, IfSome, IsSome}
+use Rattle.std.specs.Prelude.{Contains, IfSome}
 use Rattle.std.specs.Cmp.{first_so, second_so, unsigned_Decides}
-use Rattle.hir_glob_imports.specs.Types.{Bound, Brought, Edge, Key, Update}
+use Rattle.hir_glob_imports.specs.Types.{Bound, Brought, Edge, Key}
 use Rattle.hir_glob_imports.specs.contracts.edge.TargetPartialEq.TheImpl as target_eq
 use Rattle.hir_glob_imports.specs.declared.edge.Update.TheVariants.{Nothing, Follow}
 use Rattle.hir_glob_imports.specs.Inner.{HasTwoAlike, IsAlikeAt, IsOpened, IsUnused, OpensKeys, is_alike}

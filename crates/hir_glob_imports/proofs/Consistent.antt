@@ -1,12 +1,12 @@
 -- What is kept of edges and of what they brought still fits together.
-use Rattle.std.proofs.Common.{◌≡◌, ◌∙◌, ap, sym, subst, refl, ℕ, ◌<◌, ◌+◌, Bool, true, false, List, [], ◌∷◌, ◌++◌, length, Option, None, Some, arith, slice_get, if◌then◌else◌}
+use Rattle.std.proofs.Common.{◌≡◌, ◌∙◌, ap, sym, subst, ℕ, ◌<◌, ◌+◌, Bool, true, false, List, [], ◌∷◌, ◌++◌, length, None, Some, arith, slice_get, if◌then◌else◌}
 use Rattle.std.specs.Prelude.{Contains, slice_set}
 use Rattle.std.proofs.lemmas.List.{length-append, length-set}
 use Rattle.hir_scope.specs.HirPerNs.declared.visibility.Visibility.{Visibility}
-use Rattle.hir_glob_imports.specs.Types.{Brought, Edge, EdgesByModule, Key, Slot}
+use Rattle.hir_glob_imports.specs.Types.{Brought, Edge, EdgesByModule, Slot}
 use Rattle.hir_glob_imports.specs.declared.edge.Target.TheVariants.{Own}
 use Rattle.hir_glob_imports.specs.ByModule.{BroughtKeys}
-use Rattle.hir_glob_imports.specs.Inner.{IsConsistent, IsIndexed, edges_at}
+use Rattle.hir_glob_imports.specs.Inner.{IsConsistent, edges_at}
 use Rattle.hir_glob_imports.specs.Keys.{same_slot}
 use Rattle.hir_glob_imports.specs.Rules.{with_brought}
 use Rattle.hir_glob_imports.specs.Waves.{edge_with_vis}

@@ -216,11 +216,7 @@ fn copied_tools(alloc: Global, tools: &[Name]) -> Result<Vec<Name>, AllocError>
 }
 
 /// Adds a name to a list, and to the set of the names in it.
-fn add_name(
-    list: &mut Vec<Name>,
-    names: &mut BTreeSet<Name>,
-    name: Name,
-) -> Result<(), AllocError>
+fn add_name(list: &mut Vec<Name>, names: &mut BTreeSet<Name>, name: Name) -> Result<(), AllocError>
     ensures ok { OnOk result (list.new.items ≡ list.old.items ++ name ∷ []) }
     ensures err { OnErr result (list.new.items ≡ list.old.items) }
     ensures names { HasNames names.old.keys list.old.items → HasNames names.new.keys list.new.items }

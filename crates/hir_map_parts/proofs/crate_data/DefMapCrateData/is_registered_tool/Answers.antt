@@ -1,5 +1,5 @@
 -- The set has the names of the registered tools.
-use Rattle.std.proofs.Common.{◌≡◌, ◌∙◌, ap}
+use Rattle.std.proofs.Common.{◌∙◌, ap}
 use Rattle.hir_map_parts.specs.Reads.{tool_in}
 use Rattle.hir_map_parts.specs.State.{CrateData}
 use Rattle.hir_map_parts.proofs.NameSets.{named_among}
