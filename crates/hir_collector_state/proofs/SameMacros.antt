@@ -33,7 +33,7 @@ use Rattle.hir_collector_rules.specs.HirTextualScope.contracts.textual_scope.Tex
 use Rattle.hir_collector_rules.specs.HirTextualScope.declared.textual_scope.TextualMacro.{TextualMacro}
 use Rattle.hir_collector_rules.specs.HirScope.Scope.{ScopeValue}
 use Rattle.hir_collector_rules.specs.HirDefMapRules.Inner.OverlayLaws.{exact_map}
-use Rattle.hir_collector_rules.specs.HirDefMapRules.State.{Map, ModuleValue, module_at, scope_at, with_module_scope}
+use Rattle.hir_collector_rules.specs.HirDefMapRules.State.{Map, ModuleValue, module_at, with_module_scope}
 use Rattle.hir_collector_rules.specs.Macros.{textual_at, textual_in, with_textual_scope}
 use Rattle.hir_collector_rules.specs.State.{Run, core_in, with_map}
 use Rattle.hir_collector_state.proofs.Noted.{unchanged_at}

@@ -22,9 +22,7 @@ ghost use Rattle.hir_collector_rules.specs.Derivation.{collected_view, told_run}
 ghost use Rattle.hir_collector_rules.specs.Moves.{begun};
 ghost use Rattle.hir_collector_state.specs.Waiting.{IsNoted};
 
-use crate::def_collector::changes::{
-    has_same_textual, most_compared, note_variants, note_wanted,
-};
+use crate::def_collector::changes::{has_same_textual, most_compared, note_variants, note_wanted};
 use hir_base::ast_id::{AstId, EditionedFileId, FileId, HirFileId};
 use hir_base::cfg_options::CfgOptions;
 use hir_base::ids::{
