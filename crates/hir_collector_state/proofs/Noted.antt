@@ -20,8 +20,6 @@ use Rattle.hir_collector_rules.specs.HirIds.declared.ids.FunctionId.{FunctionId}
 use Rattle.hir_collector_rules.specs.HirIds.declared.macro_kind.MacroId.{MacroId}
 use Rattle.hir_collector_rules.specs.HirIds.declared.ids.ModuleId.{ModuleId}
 use Rattle.hir_collector_rules.specs.HirIds.declared.macro_kind.ProcMacroId.{ProcMacroId}
-use Rattle.hir_collector_rules.proofs.HirScope.Pushes.{scope_stays}
-use Rattle.hir_collector_rules.specs.HirScope.Globs.{GlobNames, Place}
 use Rattle.hir_collector_rules.specs.HirScope.Scope.{ScopeValue}
 use Rattle.hir_collector_rules.specs.HirPerNs.declared.per_ns.PerNs.{PerNs}
 use Rattle.hir_collector_rules.specs.HirPerNs.declared.visibility.Visibility.{Visibility}
@@ -31,7 +29,7 @@ use Rattle.hir_collector_rules.specs.HirDefMapRules.Overlay.{Maps}
 use Rattle.hir_collector_rules.specs.HirDefMapRules.Macros.{helpers_at, with_derive_helper, with_diagnostic, with_exported}
 use Rattle.hir_collector_rules.specs.HirDefMapRules.Macros.{with_helper, with_macro_data, with_macro_def}
 use Rattle.hir_collector_rules.specs.HirDefMapRules.State.{IsInOrder, Local, MacroDataValue, Map, ModuleValue, changed_at}
-use Rattle.hir_collector_rules.specs.HirDefMapRules.State.{changes_module, entry_of, module_at, new_module}
+use Rattle.hir_collector_rules.specs.HirDefMapRules.State.{entry_of, module_at, new_module}
 use Rattle.hir_collector_rules.specs.HirDefMapRules.State.{numbered, parent_at, parent_of, push_changes, pushed, pushed_module}
 use Rattle.hir_collector_rules.specs.HirDefMapRules.State.{place_at, Variants, variants_at, with_enum}
 use Rattle.hir_collector_rules.specs.HirDefMapRules.State.{with_extern, with_macro_use, with_module, with_module_scope, with_scope}
@@ -52,6 +50,7 @@ use Rattle.hir_collector_rules.specs.HirGlobImports.View.{View}
 use Rattle.hir_collector_rules.specs.HirGlobImports.Waves.{GlobsValue, IsKept, brought_of}
 use Rattle.hir_import_growth.proofs.GlobsLasting.{globs_pushed, globs_still}
 use Rattle.hir_import_growth.proofs.GrowingAround.{enums_around, lists_around, modules_around, scopes_around}
+use Rattle.hir_import_growth.proofs.VainPushes.{push_stays}
 use Rattle.hir_collector_rules.specs.HirImportRules.Changes.{forgotten}
 use Rattle.hir_collector_rules.specs.HirImportRules.Directives.{TakenValue}
 use Rattle.hir_import_growth.specs.Binding.{IsBound}
@@ -491,27 +490,6 @@ elsewhere (x ∷ xs) (suc at) change (suc k) low = elsewhere xs at change k (ome
 
 -- ---- each change of the map
 
--- where each element at the place stays, all do
-pub unchanged_at : {A : Type 0} (xs : List A) (at : ℕ) (change : A → A) → ((x : A) → slice_get xs at ≡ Some x → change x ≡ x) → changed_at xs at change ≡ xs
-unchanged_at [] at change stays = refl
-unchanged_at (x ∷ xs) zero change stays = ap (λ y. y ∷ xs) (stays x refl)
-unchanged_at (x ∷ xs) (suc at) change stays = ap (λ ys. x ∷ ys) (unchanged_at xs at change stays)
-
--- a push that changes nothing leaves the map
-push_stays : (map : Map) (names : GlobNames) (home : ℕ) (name : List ℕ) (items : PerNs) → push_changes map names home name items None ≡ false
-    → pushed map names home name items None ≡ map
-push_stays map names home name items none = λ i. record map { modules = unchanged_at map.modules home (pushed_module names place items None) same i }
-  where
-    place : Place
-    place = place_at map.id home name
-
-    same : (m : ModuleValue) → module_at map home ≡ Some m → pushed_module names place items None m ≡ m
-    same m here =
-        λ i. record m {
-          scope = scope_stays m.scope names place None items (sym (ap (λ (o : Option ModuleValue). changes_module o names place items None) here)
-              ∙ none) i;
-        }
-
 -- a push, once it's noted where globs are to be looked at
 module _ (a b : Run) (home : ℕ) (name : List ℕ) (items : PerNs) (map : b.map ≡ pushed a.map a.names home name items None) (edges : b.globs.edges ≡ a.globs.edges)
     (brought : brought_of b.globs ≡ forgotten home name items (brought_of a.globs)) (forgets : (v w : View) → IsKept v a.globs → IsBound home name items v w
@@ -553,7 +531,7 @@ module _ (a b : Run) (home : ℕ) (name : List ℕ) (items : PerNs) (map : b.map
     -- that changes nothing, and nothing is noted
     pub noted_vain_push : push_changes a.map a.names home name items None ≡ false → b.changed ≡ a.changed → IsNoted a b
     noted_vain_push none changed = record {
-      slots = slots_same a b (map ∙ push_stays a.map a.names home name items none) local changed;
+      slots = slots_same a b (map ∙ push_stays a.map a.names home name items None none) local changed;
       imports = λ e. left_bound;
       globs = λ e. globs_bound;
     }

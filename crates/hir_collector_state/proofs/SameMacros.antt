@@ -36,7 +36,7 @@ use Rattle.hir_collector_rules.specs.HirDefMapRules.Inner.OverlayLaws.{exact_map
 use Rattle.hir_collector_rules.specs.HirDefMapRules.State.{Map, ModuleValue, module_at, with_module_scope}
 use Rattle.hir_collector_rules.specs.Macros.{textual_at, textual_in, with_textual_scope}
 use Rattle.hir_collector_rules.specs.State.{Run, core_in, with_map}
-use Rattle.hir_collector_state.proofs.Noted.{unchanged_at}
+use Rattle.hir_import_growth.proofs.VainPushes.{unchanged_at}
 
 same_nat : (m n : ℕ) → nat_eq m n ≡ true → m ≡ n
 same_nat m n e = (unsigned_Decides m n).0 e

@@ -1,5 +1,6 @@
 -- what a push changes
 pub mod Binding
+pub mod VainPushes
 pub mod Forgotten
 -- what lasts
 pub mod Firm

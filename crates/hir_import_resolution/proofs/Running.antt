@@ -1,5 +1,5 @@
 -- What holds of a resolver between two calls stays so.
-use Rattle.std.proofs.Common.{◌≡◌, ◌∙◌, ap, sym, refl, subst, ℕ, ◌<◌, ◌≤◌, Bool, true, false, Option, None, Some, ◌++◌, List, [], length, not}
+use Rattle.std.proofs.Common.{◌≡◌, ◌∙◌, ap, sym, refl, subst, ℕ, ◌<◌, ◌≤◌, Bool, true, false, Option, None, Some, cond, ◌++◌, List, [], length, not}
 use Rattle.std.proofs.lemmas.List.{append-nil, append_assoc, length-map}
 use Rattle.std.specs.List.{All}
 use Rattle.std.specs.Option.{option_and_then, option_map}
@@ -306,17 +306,23 @@ begun_after r0 r1 r2 now slots taken old idle changes noted_is kept recorded las
         (subst (λ (w : WorldPart). AreIdleSettled r2.lasting r0.apart (part_of w) (state_by r1) None r2.worklist r2.watchers) (sym changes.world)
         (lowered r0.lasting r2.lasting r0.apart (finished_by r0) (state_by r1) None r2.worklist r2.watchers (λ e. sym changes.lasting ∙ fewer e) after))
 
--- an import was taken, and what read its name was woken
+-- an import was taken: the slot of its name changed, or none did
+pub named_where : (r0 r1 : Resolver) (home : ℕ) (name : Option (List ℕ)) (changes : Bool) → ChangesSlots r0 r1 (slots_named home name)
+    → (changes ≡ false → ChangesSlots r0 r1 []) → ChangesSlots r0 r1 (slots_named home (cond changes name None))
+named_where r0 r1 home name true is stays = is
+named_where r0 r1 home name false is stays = stays refl
+
+-- and what read it was woken
 pub begun_taken : (r0 r1 r2 : Resolver) (i : ℕ) (taking : Taking) → taking_at (finished_by r0) (state_by r0) i ≡ Some taking → IsTrying r0 i
-    → IsTaken r0 r1 i taking
+    → IsTaken r0 r1 i taking → (slots : List PathSlot) → ChangesSlots r0 r1 slots
     → IsKeptIn r1 → AreRecorded r1 → (r2.lasting ≡ true → Lasts (finished_by r1) (state_by r1)) → (r2.lasting ≡ true → r1.lasting ≡ true) → r1.count ≤ MAX_STEPS
     → r2 ≡ record r1 { worklist = r2.worklist; watchers = r2.watchers; lasting = r2.lasting; reported = r2.reported }
-    → IsWoken r1.apart (slots_named taking.home taking.name) r1.worklist r1.watchers r2.worklist r2.watchers → IsBegun r2 None
-begun_taken r0 r1 r2 i taking is_due old is kept recorded lasts fewer small rest woken =
-    begun_after r0 r1 r2 (Some i) (slots_named taking.home taking.name) (slice_set r0.taken.items i now) old.running.begun
+    → IsWoken r1.apart slots r1.worklist r1.watchers r2.worklist r2.watchers → IsBegun r2 None
+begun_taken r0 r1 r2 i taking is_due old is slots changed kept recorded lasts fewer small rest woken =
+    begun_after r0 r1 r2 (Some i) slots (slice_set r0.taken.items i now) old.running.begun
     (noted r0.lasting r0.apart (finished_by r0) (state_by r0) i now r0.worklist r0.watchers old.running.begun.settled old.watching
     (record { settled = taken_settled (finished_by r0) (state_by r0) i taking d; firm = λ e r at. firm_noted r r.source (old.firm e r at) }))
-    is.changes (is.taken d.t d.before ∙ (λ j. slice_set r0.taken.items i (taken_after d.t (d.is j).answer))) kept recorded lasts fewer small
+    changed (is.taken d.t d.before ∙ (λ j. slice_set r0.taken.items i (taken_after d.t (d.is j).answer))) kept recorded lasts fewer small
     (rest ∙ (λ j. record r1 { worklist = r2.worklist; watchers = r2.watchers; lasting = r2.lasting; changes = sym changes j; reported = r2.reported })) woken
     (ap (λ (v : Vec Slot Global). v.items) (changes ∙ is.reported) ∙ old.running.begun.fresh)
   where

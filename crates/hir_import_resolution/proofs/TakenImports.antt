@@ -1,5 +1,5 @@
 -- An import that was taken in a resolver.
-use Rattle.std.proofs.Common.{◌≡◌, ◌∙◌, ◌⊎◌, inl, inr, ap, sym, subst, refl, ℕ, ◌+◌, List, [], length, Option, None, Some, arith}
+use Rattle.std.proofs.Common.{◌≡◌, ◌∙◌, ◌⊎◌, inl, inr, ap, sym, subst, refl, ℕ, ◌+◌, Bool, false, List, [], length, Option, None, Some, arith}
 use Rattle.std.specs.Prelude.{slice_get, slice_set}
 use Rattle.std.specs.declared.vec.Vec.{Vec}
 use Rattle.std.specs.declared.alloc.Global.{Global}
@@ -20,8 +20,8 @@ use Rattle.hir_glob_imports.specs.Waves.{AreOfKind, GlobsValue, IsKept, Records,
 use Rattle.hir_glob_imports.specs.declared.edge.Edge.{Edge}
 use Rattle.hir_import_rules.specs.Changes.{bound_as, kept_vis, pushing, with_kept}
 use Rattle.hir_import_rules.specs.Directives.{TakenValue, leaf_of, taken_after, taken_for}
-use Rattle.hir_import_resolution.specs.Inner.State.{ArePlacedIn, AreRecorded, IsKeptIn, IsLinked, IsTaken, IsTraitPlaced, finished_by, slots_named, state_by}
-use Rattle.hir_import_resolution.specs.Inner.State.{with_globs}
+use Rattle.hir_import_resolution.specs.Inner.State.{ArePlacedIn, AreRecorded, ChangesSlots, IsKeptIn, IsLinked, IsTaken, IsTraitPlaced, finished_by}
+use Rattle.hir_import_resolution.specs.Inner.State.{slots_named, state_by, with_globs}
 use Rattle.hir_import_resolution.specs.Inner.Steps.{IsLinking, taking_at}
 use Rattle.hir_import_rules.specs.Lasting.{HasVariants, IsPlaced, Lasts}
 use Rattle.hir_import_rules.specs.Names.{trait_vis, view_of}
@@ -69,10 +69,11 @@ taken_edges finished s home (Some name) items source (Some id) vis leaf = refl
 
 -- ---- an import
 
--- what holds once it is taken
-pub record Took (r new : Resolver) (i : ℕ) (taking : Taking) : Type 0 where
+-- what holds once it is taken, and where its name stands for what it stood for
+pub record Took (r new : Resolver) (i : ℕ) (taking : Taking) (changes : Bool) : Type 0 where
   pub step : Step (finished_by r) (state_by r) (state_by new)
   pub is : IsTaken r new i taking
+  pub stays : changes ≡ false → ChangesSlots r new []
   pub kept : IsKeptIn r → IsKeptIn new
   pub recorded : AreRecorded r → AreRecorded new
   pub placed : IsTraitPlaced new taking.home taking.kept → ArePlacedIn r → ArePlacedIn new
@@ -149,6 +150,24 @@ module _ (r m r2 r3 : Resolver) (i : ℕ) (taking : Taking) (leaf : Option Impor
     reported = rest (λ x. x.changes) (λ x. refl) (λ x. refl) ∙ ap (λ (x : Resolver). x.changes) begun;
   }
 
+  -- where the name stands for what it stood for, no slot changes
+  taken_in_vain : r2.scopes.map ≡ m.scopes.map → ChangesSlots r r3 []
+  taken_in_vain same = record {
+    world = taken_changes.changes.world;
+    among =
+        subst (λ (map : Map). ScopesChangeAmong r.scopes.map map r.local []) (sym (ap (λ (s : ImportState). s.map) kept))
+        (subst (λ (map : Map). ScopesChangeAmong map (with_kept (finished_by r2) (state_by r2) taking.home taking.kept taking.vis leaf).map r.local [])
+        (same ∙ ap (λ (x : Resolver). x.scopes.map) begun)
+        (kept_among (finished_by r2) (state_by r2) taking.home taking.kept taking.vis leaf r.local []));
+    local = taken_changes.changes.local;
+    imports = taken_changes.changes.imports;
+    apart = taken_changes.changes.apart;
+    lasting = taken_changes.changes.lasting;
+    worklist = taken_changes.changes.worklist;
+    watchers = taken_changes.changes.watchers;
+    reported = taken_changes.changes.reported;
+  }
+
   edges_stay : Due (finished_by r) (state_by r) i taking → r3.globs.edges ≡ r.globs.edges
   edges_stay e =
       ap (λ (s : ImportState). s.edges) (taken_is e.t e.before)
@@ -174,11 +193,12 @@ module _ (r m r2 r3 : Resolver) (i : ℕ) (taking : Taking) (leaf : Option Impor
   taken_placed first then of_trait before = then of_trait (first (subst ArePlacedIn (sym begun) before))
 
   -- all of it
-  pub took : (IsKeptIn m → IsKeptIn r2) → (IsKeptIn r2 → IsKeptIn r3) → (ArePlacedIn m → ArePlacedIn r2)
-      → (IsTraitPlaced r3 taking.home taking.kept → ArePlacedIn r2 → ArePlacedIn r3) → Took r r3 i taking
-  took first then place place_trait = record {
+  pub took : (changes : Bool) → (changes ≡ false → r2.scopes.map ≡ m.scopes.map) → (IsKeptIn m → IsKeptIn r2) → (IsKeptIn r2 → IsKeptIn r3)
+      → (ArePlacedIn m → ArePlacedIn r2) → (IsTraitPlaced r3 taking.home taking.kept → ArePlacedIn r2 → ArePlacedIn r3) → Took r r3 i taking changes
+  took changes vain first then place place_trait = record {
     step = taken_steps;
     is = taken_changes;
+    stays = λ e. taken_in_vain (vain e);
     kept = taken_kept first then;
     recorded = taken_recorded;
     placed = taken_placed place place_trait;

@@ -1,5 +1,5 @@
 //! Tries, until all imports rest.
-ghost use Rattle.std.specs.Prelude.{◌≡◌, ◌<◌, ◌≤◌, [], true, None, Some, OnOk};
+ghost use Rattle.std.specs.Prelude.{◌≡◌, ◌<◌, ◌≤◌, [], true, None, Some, OnOk, cond, option_copied};
 ghost use Rattle.hir_import_resolution.specs.Inner.Queue.{IsBegun, IsRunning, IsTrying, Reports};
 ghost use Rattle.hir_worklist.specs.Waking.{IsSamePass};
 ghost use Rattle.hir_import_resolution.specs.Inner.State.{finished_by, state_by};
@@ -9,8 +9,16 @@ ghost use Rattle.hir_import_rules.specs.Rules.{Steps};
 
 use crate::resolver::Resolver;
 use crate::resolver::steps::Taking;
+use hir_base::name::Name;
 use hir_glob_imports::{Edge, MAX_STEPS};
 use hir_import_rules::error::ImportError;
+
+/// The name, if it may stand for something else.
+fn name_where(changes: bool, name: &Option<Name>) -> Option<&Name>
+    ensures value { option_copied result ≡ cond changes name.now None }
+{
+    if changes { name.as_ref() } else { None }
+}
 
 impl Resolver<'_> {
     /// Takes names along globs, and queues what read a name that changed.
@@ -42,9 +50,9 @@ impl Resolver<'_> {
         ensures pass { OnOk result (IsSamePass self.old.worklist self.new.worklist) }
         ensures many { result ≡ Err ImportError.TooMany → IsSpent (finished_by self.old) (state_by self.old) }
     {
-        self.take(i, taking)?;
+        let changes = self.take(i, taking)?;
         self.note_trait(taking.home, taking.kept);
-        self.wake(taking.home, taking.name.as_ref())?;
+        self.wake(taking.home, name_where(changes, &taking.name))?;
         self.wave()?;
         Ok(())
     }

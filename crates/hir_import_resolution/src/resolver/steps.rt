@@ -1,8 +1,8 @@
 //! One step: an import that binds what it reaches, a glob that is recorded, and what goes along globs.
-ghost use Rattle.std.specs.Prelude.{◌≡◌, ◌<◌, ◌≤◌, [], IfNone, IfOk, IfSome, OnOk, Some, length, option_map, slice_get, slice_set};
+ghost use Rattle.std.specs.Prelude.{◌≡◌, ◌<◌, ◌≤◌, [], false, IfNone, IfOk, IfSome, OnOk, Some, length, option_map, slice_get, slice_set};
 ghost use Rattle.hir_import_rules.specs.declared.directive.ImportDirective.{ImportDirective};
 ghost use Rattle.hir_import_rules.specs.Directives.{TakenValue, answer_to, path_answer, taken_after, taken_for, visibility_of};
-ghost use Rattle.hir_import_resolution.specs.Inner.State.{ArePlacedIn, AreRecorded, IsKeptIn, IsTraitPlaced, IsLinked, IsSpread, IsTaken, counted, finished_by, spread_from, state_by, with_globs};
+ghost use Rattle.hir_import_resolution.specs.Inner.State.{ArePlacedIn, AreRecorded, ChangesSlots, IsKeptIn, IsTraitPlaced, IsLinked, IsSpread, IsTaken, counted, finished_by, spread_from, state_by, with_globs};
 ghost use Rattle.hir_import_resolution.specs.Inner.Steps.{IsLinkedAt, IsLinking, taking_at};
 ghost use Rattle.hir_import_rules.specs.Lasting.{HasVariants, IsPlaced, Lasts};
 ghost use Rattle.hir_import_rules.specs.Rest.{IsSound, IsSpent};
@@ -211,12 +211,14 @@ impl Resolver<'_> {
         Ok(())
     }
 
-    /// Takes an import: binds what it reaches, in one step. Nothing is queued and nothing goes along globs yet.
-    pub(crate) fn take(&mut self, i: usize, taking: &Taking) -> Result<(), ImportError>
+    /// Takes an import: binds what it reaches, in one step; whether its name may stand for something else. Nothing is queued
+    /// and nothing goes along globs yet.
+    pub(crate) fn take(&mut self, i: usize, taking: &Taking) -> Result<bool, ImportError>
         requires due { taking_at (finished_by self.old) (state_by self.old) i ≡ Some taking.now }
         requires there { taking.now.home < length self.old.scopes.map.modules }
         ensures step { OnOk result (Step (finished_by self.old) (state_by self.old) (state_by self.new)) }
         ensures is { OnOk result (IsTaken self.old self.new i taking.now) }
+        ensures stays { IfOk result (λ changes. changes ≡ false → ChangesSlots self.old self.new []) }
         ensures kept { OnOk result (IsKeptIn self.old → IsKeptIn self.new) }
         ensures recorded { OnOk result (AreRecorded self.old → AreRecorded self.new) }
         ensures placed { OnOk result (IsTraitPlaced self.new taking.now.home taking.now.kept → ArePlacedIn self.old → ArePlacedIn self.new) }
@@ -226,9 +228,9 @@ impl Resolver<'_> {
     {
         self.tick()?;
         note_answer(&mut self.taken, i, taking.answer);
-        self.bind(taking.home, &taking.name, taking.items, taking.source)?;
+        let changes = self.bind(taking.home, &taking.name, taking.items, taking.source)?;
         self.keep(taking.home, taking.kept, taking.vis, taking.source.leaf())?;
-        Ok(())
+        Ok(changes)
     }
 
     /// Records a glob for what it reaches, in one step. Nothing goes along it yet.

@@ -1,8 +1,8 @@
 //! The names of a map that is built, as its imports read and write them.
-ghost use Rattle.std.specs.Prelude.{◌≡◌, OnOk, Some};
+ghost use Rattle.std.specs.Prelude.{◌≡◌, IfOk, OnOk, Some};
 ghost use Rattle.hir_nameres.specs.DefMaps.{maps_of};
 ghost use Rattle.hir_def_map_rules.specs.Overlay.{overlay};
-ghost use Rattle.hir_def_map_rules.specs.State.{globs_after, module_at, numbered, pushed, with_scope};
+ghost use Rattle.hir_def_map_rules.specs.State.{globs_after, module_at, numbered, push_changes, pushed, with_scope};
 ghost use Rattle.hir_nameres.specs.WorldParts.{part_of};
 ghost use Rattle.hir_import_rules.specs.Changes.{kept_vis};
 ghost use Rattle.hir_import_rules.specs.Names.{trait_vis, with_trait};
@@ -53,22 +53,22 @@ impl<'a> OpenScopes<'a> {
         }
     }
 
-    /// Pushes items to a name of a module by an import.
+    /// Pushes items to a name of a module by an import; whether that changes anything.
     pub fn push(
         &mut self,
         home: u32,
         name: Name,
         items: PerNs,
         import: ImportOrExternCrate,
-    ) -> Result<(), AllocError>
+    ) -> Result<bool, AllocError>
         ensures ok { OnOk result (self.new ≡ record self.old {
           map = pushed self.old.map self.old.globs home name items (Some import);
           globs = globs_after self.old.map self.old.globs home name items (Some import);
         }) }
+        ensures changed { IfOk result (λ changed. changed ≡ push_changes self.old.map self.old.globs home name items (Some import)) }
     {
         self.map
-            .push(&mut self.globs, home, name, items, Some(import))?;
-        Ok(())
+            .push(&mut self.globs, home, name, items, Some(import))
     }
 
     /// Keeps a trait without a name in a module: for those who may see it as it was kept before, or by this import.

@@ -9,7 +9,7 @@ use Rattle.hir_import_resolution.proofs.Due.{taking_spent}
 use Rattle.hir_import_resolution.proofs.TakenImports.{Took, took}
 use Rattle.hir_import_resolution.proofs.resolver.Resolver.take.Goals as goal
 
-all : (c : goal.In_ok-keep) → Took c.args.self.now c.keep.new.self c.args.i c.args.taking.now
+all : (c : goal.In_ok-keep) → Took c.args.self.now c.keep.new.self c.args.i c.args.taking.now c.in_ok-changes.changes
 all c =
     took c.args.self.now (record c.tick.new.self { taken = c.note_answer.new.taken }) c.bind.new.self c.keep.new.self c.args.i c.args.taking.now c.leaf.result
     c.note_answer.new.taken
@@ -18,16 +18,20 @@ all c =
     (subst (λ (x : Resolver). (before : TakenValue) → slice_get x.taken.items c.args.i ≡ Some before
     → c.note_answer.new.taken.items ≡ slice_set x.taken.items c.args.i (taken_after before c.args.taking.now.answer)) c.in_ok-tick.ensures.ok
     c.note_answer.ensures.noted)
-    c.in_ok-bind.ensures.ok c.in_ok-bind.ensures.rest c.in_ok-bind.ensures.world
+    c.in_ok-changes.ensures.ok c.in_ok-changes.ensures.rest c.in_ok-changes.ensures.world
     c.leaf.ensures.value
     c.in_ok-keep.ensures.ok c.in_ok-keep.ensures.rest c.in_ok-keep.ensures.world
-    c.in_ok-bind.ensures.kept c.in_ok-keep.ensures.kept c.in_ok-bind.ensures.placed c.in_ok-keep.ensures.placed
+    c.in_ok-changes.changes c.in_ok-changes.ensures.stays c.in_ok-changes.ensures.kept c.in_ok-keep.ensures.kept
+    c.in_ok-changes.ensures.placed c.in_ok-keep.ensures.placed
 
 pub returns-clause-step : goal.returns-clause-step
 returns-clause-step c = (all c).step
 
 pub returns-clause-is : goal.returns-clause-is
 returns-clause-is c = (all c).is
+
+pub returns-clause-stays : goal.returns-clause-stays
+returns-clause-stays c = (all c).stays
 
 pub returns-clause-kept : goal.returns-clause-kept
 returns-clause-kept c = (all c).kept
