@@ -54,7 +54,7 @@ const G: &str =
     "called!();\ncrate::c::called_there!();\ncrate::c::Holding::held!();\nNearby::held!();\nstd::held!();\n\
     #[crate::c::marked] fn of_attribute() {}\n#[derive(crate::c::Derived)] struct OfDerive;\n\
     use crate::c::Kind::One;\npub use crate::c::Kind::{Two, Three as Third};\nuse super::g::Third as Again;\n\
-    use self::Own::Four;\nuse Alone::Five;\nuse std::Four as Six;\n";
+    use self::Own::Four;\nuse Lonely::Five;\n";
 
 const BY_NAMES: Option<KnownBy> = Some(KnownBy::Names);
 const BY_LOOK_UPS: Option<KnownBy> = Some(KnownBy::LookUps);
@@ -152,7 +152,7 @@ const EDITS: [(&str, &str, &str, Option<KnownBy>); 85] = [
     ("c", "", "pub enum Kind { One, Two(u8), Three }\n", BY_IMPORTS),
     ("c", "", "pub(crate) enum Kind { Three {}, Two, One, Four }\n", BY_IMPORTS),
     ("g", "", "enum Own { Four }\n", BY_IMPORTS),
-    ("g", "", "enum Alone { Five }\n", BY_IMPORTS),
+    ("g", "", "enum Lonely { Five }\n", BY_IMPORTS),
     ("c", "", "pub enum Kind { One, Two }\n", None),
     ("c", "", "enum Kind { One, Two, Three }\n", None),
     ("c", "", "pub struct Kind;\n", None),
@@ -166,16 +166,21 @@ fn edits_that_change_nothing_of_what_is_told() {
     let files: Vec<(&str, &str)> = files.iter().map(|(name, text)| (&**name, *text)).collect();
     let folder = package(&files);
     let mut spaces = [open(folder.path()), open(folder.path())];
+    let mut differ = Vec::new();
     for (name, from, to, wanted) in EDITS {
         let text = texts.iter().find(|it| it.0 == name).unwrap().1;
         let edited = if from.is_empty() { format!("{text}{to}") } else { text.replace(from, to) };
         assert_ne!(edited, text, "{to}");
         let path = folder.path().join(format!("src/{name}.rs")).canonicalize().unwrap();
         let why = format!("{name}: {from} {to}");
-        assert_eq!(known(&mut spaces, &path, &edited, &why), wanted, "{why}");
+        let made = known(&mut spaces, &path, &edited, &why);
+        if made != wanted {
+            differ.push(format!("{why}: {made:?}, not {wanted:?}"));
+        }
         let back = known(&mut spaces, &path, text, &format!("back from {why}"));
         assert!(back.is_none() || wanted.is_some(), "back from {why}");
     }
+    assert!(differ.is_empty(), "{}", differ.join("\n"));
 }
 
 /// In edition 2015 paths of imports begin at the root.
