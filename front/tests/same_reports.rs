@@ -334,7 +334,7 @@ fn random_edits_of_items_and_imports() {
         let mut spaces = [open(folder.path()), open(folder.path())];
         let mut watched = open_brief(folder.path());
         watched.report().unwrap();
-        for round in 0..25 {
+        for round in 0..40 {
             let imported: Vec<(usize, String)> = files.iter().flatten().filter_map(|it| imported(it)).collect();
             let mut at = dice.below(MODULES.len());
             if imported.is_empty() || dice.below(5) == 0 {
