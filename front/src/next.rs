@@ -2,6 +2,7 @@
 //! which paths a name could be imported.
 
 mod associated;
+mod paths;
 
 use std::collections::{BTreeSet, HashSet};
 use std::sync::Arc;
@@ -260,6 +261,9 @@ impl Workspace {
     /// The shortest path to each item of a name that a place sees and that has it as a type, a value or a macro, as far as
     /// these are wanted; shorter ones first, and those of fewer imports.
     pub fn importable(&mut self, krate: u32, place: &[Step], name: &str, wanted: [bool; 3]) -> Result<Vec<String>> {
+        if let Some(found) = self.found_paths(krate, place, name, wanted)? {
+            return Ok(found);
+        }
         if !self.lists_names()? {
             return Ok(Vec::new());
         }
@@ -267,7 +271,7 @@ impl Workspace {
         let dependencies = self.crates.all[krate as usize].dependencies.iter().filter(|it| it.2);
         level.extend(dependencies.map(|(number, name, _)| (name.clone(), 0, (*number, Vec::new()))));
         // The standard library's parts have most names in `std` too.
-        let order = |it: &Way| (matches!(it.0.split("::").next(), Some("core" | "alloc")), it.1, it.0.clone());
+        let order = |it: &Way| (it.0.split("::").next().is_some_and(paths::is_part_of_std), it.1, it.0.clone());
         let (mut visited, mut known, mut made) = (HashSet::new(), HashSet::new(), Vec::new());
         for _ in 1..MOST_NAMES {
             level.sort_by_cached_key(order);

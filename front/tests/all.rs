@@ -16,5 +16,6 @@ mod lsp;
 mod lsp_edits;
 mod lsp_messages;
 mod paths;
+mod paths_to;
 mod same_reports;
 mod symbols;

@@ -6,8 +6,9 @@ use std::sync::Arc;
 use anyhow::Result;
 use serde_json::Value;
 
+use super::associated::UnitAt;
 use super::{Since, Workspace};
-use crate::unit::{place_json, Step};
+use crate::unit::{place_json, Detail, Node, Step};
 
 /// A crate, and a module or a block in it.
 pub(crate) type ModulePlace = (u32, Vec<Step>);
@@ -120,6 +121,30 @@ impl Workspace {
         // There is no such crate.
         let reply = self.ask(names_command(self.crates.all.len() as u32, &[]))?;
         Ok(reply["error"] == "unknown place")
+    }
+
+    /// The modules in which something is written that has this name there or, as an exported macro, in the root of its crate.
+    pub(crate) fn places_naming(&self, name: &str) -> Vec<ModulePlace> {
+        let is_of_macro = |it: &Node| matches!(&it.detail, Detail::Derive(it) if it == name);
+        // An `extern crate` has two names.
+        let is_so_called = |it: &Node| it.name.split(' ').any(|it| it == name) || is_of_macro(it);
+        let binds = |it: &Node| it.leaves().iter().any(|it| it.binds.as_deref() == Some(name));
+        let mut made = Vec::new();
+        for krate in 0..self.crates.all.len() as u32 {
+            let before = made.len();
+            for UnitAt { built, place, .. } in self.units(krate) {
+                let nodes = built.nodes.iter().filter(|it| !it.is_left_out && it.of.is_none());
+                let naming = nodes.filter(|it| is_so_called(it) || binds(it));
+                made.extend(naming.map(|it| (krate, it.place_in(&place))));
+            }
+            if made.len() > before {
+                made.push((krate, Vec::new()));
+            }
+        }
+        made.retain(|it| it.1.iter().all(|it| matches!(it, Step::Module(_))));
+        let mut known = HashSet::new();
+        made.retain(|it| known.insert(it.clone()));
+        made
     }
 
     fn scope_of(&mut self, reply: &Value) -> Scope {
