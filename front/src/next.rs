@@ -13,7 +13,7 @@ use serde_json::{json, Value};
 use crate::question::{question, Context, BUILTIN_TYPES};
 use crate::site::Holder;
 use crate::unit::{expander_of, Detail, Step};
-use crate::workspace::{Bound, ModulePlace, Workspace};
+use crate::workspace::{Bound, ModulePlace, Seen, Workspace};
 
 /// Where a path stands of which the next name is asked for.
 #[derive(Clone, Debug)]
@@ -52,8 +52,8 @@ type NameSet = BTreeSet<Arc<str>>;
 /// A path in an import has at most so many names.
 const MOST_NAMES: usize = 8;
 
-/// A path to a module, how many imports are on it, and the module.
-type Way = (String, usize, ModulePlace);
+/// A path to a module, how many modules on it aren't public and how many imports are on it, and the module.
+type Way = (String, [usize; 2], ModulePlace);
 
 /// How a macro is used.
 #[derive(Clone, Copy, PartialEq, Eq)]
@@ -267,9 +267,9 @@ impl Workspace {
         if !self.lists_names()? {
             return Ok(Vec::new());
         }
-        let mut level: Vec<Way> = vec![("crate".to_owned(), 0, (krate, Vec::new()))];
+        let mut level: Vec<Way> = vec![("crate".to_owned(), [0; 2], (krate, Vec::new()))];
         let dependencies = self.crates.all[krate as usize].dependencies.iter().filter(|it| it.2);
-        level.extend(dependencies.map(|(number, name, _)| (name.clone(), 0, (*number, Vec::new()))));
+        level.extend(dependencies.map(|(number, name, _)| (name.clone(), [0; 2], (*number, Vec::new()))));
         // The standard library's parts have most names in `std` too.
         let order = |it: &Way| (it.0.split("::").next().is_some_and(paths::is_part_of_std), it.1, it.0.clone());
         let (mut visited, mut known, mut made) = (HashSet::new(), HashSet::new(), Vec::new());
@@ -281,19 +281,20 @@ impl Workspace {
             }
             let modules: Vec<ModulePlace> = level.iter().map(|it| it.2.clone()).collect();
             let (mut next, mut hits) = (Vec::new(), Vec::new());
-            for ((path, imports, module), scope) in level.into_iter().zip(self.scopes(&modules)?) {
-                let way = |name: &str, bound: &Bound, to: &ModulePlace| {
-                    (format!("{path}::{name}"), imports + usize::from(bound.is_imported), to.clone())
+            for ((path, [private, imports], module), scope) in level.into_iter().zip(self.scopes(&modules)?) {
+                let way = |name: &str, bound: &Bound, to: &ModulePlace, is_through: bool| {
+                    let private = private + usize::from(is_through && bound.seen != Seen::Everywhere);
+                    (format!("{path}::{name}"), [private, imports + usize::from(bound.is_imported)], to.clone())
                 };
                 let bound = scope.get(name).into_iter().flat_map(|it| it.iter().zip(wanted));
                 let bound = bound.filter_map(|(it, is_wanted)| it.as_ref().filter(|_| is_wanted));
                 for it in bound.filter(|it| it.seen.at(krate, place)) {
-                    hits.push((way(name, it, &module), it.definition.clone()));
+                    hits.push((way(name, it, &module, false), it.definition.clone()));
                 }
                 for (name, [bound, ..]) in &scope.names {
                     let to = bound.as_ref().and_then(|it| Some((it, it.module.as_ref()?)));
                     if let Some((it, to)) = to.filter(|it| it.0.seen.at(krate, place)) {
-                        next.push(way(name, it, to));
+                        next.push(way(name, it, to, true));
                     }
                 }
             }

@@ -24,8 +24,9 @@ fn older() -> TempDir {
     script(&format!("while IFS= read -r line; do {line}; done | {}", program.display()))
 }
 
-fn number_of(space: &Workspace) -> u32 {
-    space.crates.all.iter().position(|it| it.is_asked).unwrap() as u32
+/// The number of the crate of a package.
+fn number_of(space: &Workspace, name: &str) -> u32 {
+    space.crates.all.iter().position(|it| it.name == name).unwrap() as u32
 }
 
 fn modules(names: &[&str]) -> Vec<Step> {
@@ -59,7 +60,7 @@ fn the_same_by_both() {
     let (folder, older) = (market(), older());
     let mut spaces = [open(folder.path()), open_with(folder.path(), &older.path().join("program"))];
     for (place, name) in NAMES {
-        let found = |it: &mut Workspace| it.importable(number_of(it), &modules(place), name, ANY).unwrap();
+        let found = |it: &mut Workspace| it.importable(number_of(it, "shop"), &modules(place), name, ANY).unwrap();
         let [one, other] = &mut spaces;
         assert_eq!(found(one), found(other), "{name} in {place:?}");
     }
@@ -93,7 +94,7 @@ impl Answered {
 
     /// What `resolve` answers at a module of the crate.
     fn resolves(&mut self, place: &[&str], path: &str, answer: &[(&str, Value)]) {
-        let at = place_json(number_of(&self.space), &modules(place));
+        let at = place_json(number_of(&self.space, "one"), &modules(place));
         let mut reply = json!({"macros": null, "stop": null, "types": null, "values": null});
         answer.iter().for_each(|(namespace, it)| reply[*namespace] = it.clone());
         let more = if path.starts_with("self") { "" } else { ",\"shadow\":\"module\"" };
@@ -102,14 +103,14 @@ impl Answered {
     }
 
     fn path_to(&mut self, definition: &Value, namespace: &str, path: Value) {
-        let at = place_json(number_of(&self.space), &modules(&["here"]));
+        let at = place_json(number_of(&self.space, "one"), &modules(&["here"]));
         let rest = format!("\"def\":{definition},\"ns\":\"{namespace}\",\"prefix\":\"crate\"");
         self.answer(format!("{{\"do\":\"path to\",\"at\":{at},{rest}}}"), json!({ "ok": path }));
     }
 
     /// What is offered for `Wanted` in the module `here`.
     fn offered(&mut self, wanted: [bool; 3]) -> Vec<String> {
-        let krate = number_of(&self.space);
+        let krate = number_of(&self.space, "one");
         self.space.importable(krate, &modules(&["here"]), "Wanted", wanted).unwrap()
     }
 }
@@ -123,7 +124,7 @@ fn entry(definition: &Value, is_imported: bool, visibility: &Value) -> Value {
 #[test]
 fn what_the_program_is_asked() {
     let mut it = Answered::new();
-    let krate = number_of(&it.space);
+    let krate = number_of(&it.space, "one");
     let definition = |id: u32, kind: &str| json!({"crate": krate, "id": [id, 0], "in": ["lib.rs"], "kind": kind});
     let (wanted, hidden, function) = (definition(1, "Struct"), definition(2, "Struct"), definition(3, "Fn"));
     let (module, public) = (definition(4, "Module"), json!("pub"));

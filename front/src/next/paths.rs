@@ -19,6 +19,8 @@ struct Way {
     count: usize,
     /// Whether it begins with a part of the standard library.
     is_of_part: bool,
+    /// How many modules on it aren't public.
+    private: usize,
     /// How many names on it are those of imports.
     imports: usize,
     path: String,
@@ -121,8 +123,10 @@ impl Workspace {
             let entries: Vec<Value> = replies.iter().enumerate().map(entry).collect();
             if is_it && entries.iter().all(|it| self.seen(&it["vis"]).at(krate, place)) {
                 let imports = entries.iter().filter(|it| !it["import"].is_null()).count();
+                let through = entries.split_last().map_or(&[][..], |it| it.1);
+                let private = through.iter().filter(|it| it["vis"] != "pub").count();
                 let is_of_part = is_part_of_std(&names[0]);
-                return Ok(Some(Way { count: names.len(), is_of_part, imports, path }));
+                return Ok(Some(Way { count: names.len(), is_of_part, private, imports, path }));
             }
         }
         Ok(None)
