@@ -72,7 +72,14 @@ impl Workspace {
                 Some(it) => ways.insert(it),
             };
         }
-        Ok(Some(ways.into_iter().map(|it| it.path).collect()))
+        // By one path a type and a macro may be named.
+        let (mut paths, mut known) = (Vec::new(), HashSet::new());
+        for Way { path, .. } in ways {
+            if known.insert(path.clone()) {
+                paths.push(path);
+            }
+        }
+        Ok(Some(paths))
     }
 
     /// What has this name somewhere, as answers write it, each with the first of the wanted namespaces in which it has it.
