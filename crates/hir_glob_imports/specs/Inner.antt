@@ -1,8 +1,6 @@
 -- Words of private code.
 use Rattle.std.specs.Prelude.{◌≡◌, ◌⊎◌, ◌+◌, ℕ, Bool, true, false, List, [], ◌∷◌, Option, None, Some, IsSome, Contains, slice_get, if◌then◌else◌}
 use Rattle.hir_scope.specs.Bindings.{first_of}
-use Rattle.std.specs.Ordering.{nat_cmp}
-use Rattle.std.specs.BTreeMap.{get}
 use Rattle.std.specs.declared.vec.Vec.{Vec}
 use Rattle.std.specs.declared.alloc.Global.{Global}
 use Rattle.hir_glob_imports.specs.declared.edge.Edge.{Edge}
@@ -19,9 +17,12 @@ abbrev pub items_or_none : Option (Vec ℕ Global) → List ℕ
 items_or_none None = []
 items_or_none (Some list) = list.items
 
--- the edges of a module
+-- the edges of a module, by the lists of all
+abbrev pub edges_among : List (Vec ℕ Global) → ℕ → List ℕ
+edges_among lists at = items_or_none (slice_get lists at)
+
 abbrev pub edges_at : EdgesByModule → ℕ → List ℕ
-edges_at edges at = items_or_none (get nat_cmp edges.lists at)
+edges_at edges at = edges_among edges.lists.items at
 
 -- each edge is found by the modules at its ends
 pub record IsIndexed (edges : List Edge) (out_of into : EdgesByModule) : Type 0 where

@@ -16,7 +16,7 @@ use Rattle.hir_glob_imports.specs.declared.edge.Target.{Target}
 use Rattle.hir_glob_imports.specs.declared.edge.Target.TheVariants as target
 use Rattle.hir_glob_imports.specs.declared.edge.Update.{Update}
 use Rattle.hir_glob_imports.specs.declared.edge.Update.TheVariants.{Nothing}
-use Rattle.hir_glob_imports.specs.ByModule.{BroughtKeys, brought_in}
+use Rattle.hir_glob_imports.specs.ByModule.{NamesBrought, brought_in}
 use Rattle.hir_glob_imports.specs.Keys.{slot_at, is_unnamed}
 use Rattle.hir_glob_imports.specs.Moves.{shown, brought_vis, is_as_seen, may_raise, same_def, same_vis, update_of}
 use Rattle.hir_glob_imports.specs.Rules.{BroughtBy, GlobState}
@@ -26,7 +26,7 @@ use Rattle.hir_glob_imports.specs.View.{View, bound_in, ChangesOnly}
 pub record GlobsValue : Type 0 where
   pub edges : List Edge
   -- by module
-  pub brought : List (ℕ × BroughtKeys)
+  pub brought : List (ℕ × NamesBrought)
   pub pending : List (ℕ × Key)
 
 -- which edge brought what stands in each slot, where one did

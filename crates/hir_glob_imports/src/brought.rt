@@ -1,15 +1,18 @@
 //! Which edges brought what stands in slots, by module.
-ghost use Rattle.std.specs.Prelude.{◌≡◌, None, Some, IfOk, IfSome, OnOk, cond};
+ghost use Rattle.std.specs.Prelude.{◌≡◌, ℕ, List, None, Some, IfOk, IfSome, OnOk, cond};
 ghost use Rattle.std.specs.BTreeMap.{is_at};
 ghost use Rattle.std.specs.Map.{lookup};
 ghost use Rattle.std.specs.Ordering.{is_eq, nat_cmp};
+ghost use Rattle.std.specs.Cmp.Lexicographic.{slice_cmp};
+ghost use Rattle.hir_scope_table.specs.Entries.{item_at};
 ghost use Rattle.hir_glob_imports.specs.contracts.edge.KeyOrd.TheImpl as key_order;
 ghost use Rattle.hir_glob_imports.specs.declared.edge.Key.{Key};
 ghost use Rattle.hir_glob_imports.specs.declared.edge.Slot.{Slot};
-ghost use Rattle.hir_glob_imports.specs.ByModule.{brought_in};
+ghost use Rattle.hir_glob_imports.specs.ByModule.{brought_in, kept_of, nothing_brought_in};
 ghost use Rattle.hir_glob_imports.specs.Rules.{with_brought};
 
 use crate::edge::{Bound, Brought, Key, Slot, Target};
+use hir_base::name::Name;
 use hir_scope::visibility::Visibility;
 use hir_scope_table::gap_map::GapMap;
 use std::alloc::{AllocError, Global};
@@ -52,8 +55,27 @@ impl Bringer {
     }
 }
 
-/// By the keys of a module, what brought what stands there.
-pub(crate) type BroughtKeys = GapMap<Key, Bringer>;
+/// By name, what brought what stands there in one namespace.
+type ByName = GapMap<Name, Bringer>;
+
+/// What brought what stands in a module, by namespace and name. Of a trait without a name nothing is kept.
+///
+/// The namespaces are apart because what changes at a name often changes in several of them, one after the other: so in each
+/// the names come in their order.
+#[derive(Drop)]
+pub(crate) struct BroughtNames {
+    types: ByName,
+    values: ByName,
+    macros: ByName,
+}
+
+impl Model for BroughtNames {
+    ghost use Rattle.hir_glob_imports.specs.ByModule.{NamesBrought};
+
+    ghost Value = { NamesBrought };
+
+    ghost view = { λ n. record { types = n.types; values = n.values; macros = n.macros } };
+}
 
 /// Where what a source shows was seen first, and where it is looked for next.
 #[derive(Clone, Copy)]
@@ -70,7 +92,7 @@ struct Run {
 pub(crate) struct SeenCache {
     seen: Vec<Rc<Seen>>,
     /// By the number of the module that is the source.
-    runs: BTreeMap<u32, Run>,
+    runs: Vec<Option<Run>>,
     last: usize,
 }
 
@@ -88,7 +110,7 @@ impl SeenCache {
     pub(crate) fn new(alloc: Global) -> SeenCache {
         SeenCache {
             seen: Vec::new(alloc),
-            runs: BTreeMap::new(alloc),
+            runs: Vec::new(alloc),
             last: 0,
         }
     }
@@ -96,9 +118,9 @@ impl SeenCache {
     /// The places at which to look for what an edge out of a source saw.
     fn run(&self, source: Target) -> Run {
         match source {
-            Target::Own(at) => match self.runs.get(&at) {
-                Some(run) => *run,
-                None => Run {
+            Target::Own(at) => match self.runs.get(at as usize) {
+                Some(Some(run)) => *run,
+                _ => Run {
                     first: self.last,
                     next: self.last,
                 },
@@ -116,20 +138,16 @@ impl SeenCache {
         let Target::Own(module) = source else {
             return Ok(());
         };
-        match self.runs.get_mut(&module) {
-            Some(run) => {
-                run.next = if at < usize::MAX { at + 1 } else { at };
-            }
-            None => {
-                self.runs.insert(
-                    module,
-                    Run {
-                        first: at,
-                        next: if at < usize::MAX { at + 1 } else { at },
-                    },
-                )?;
-            }
+        let module = module as usize;
+        'next: while self.runs.len() <= module {
+            self.runs.push(None)?;
         }
+        let next = if at < usize::MAX { at + 1 } else { at };
+        let first = match self.runs[module] {
+            Some(run) => run.first,
+            None => at,
+        };
+        self.runs[module] = Some(Run { first, next });
         Ok(())
     }
 
@@ -191,46 +209,97 @@ impl SeenCache {
     }
 }
 
-/// What brought what stands at a key of a module.
-fn brought_among(keys: &BroughtKeys, key: &Key) -> Option<Brought>
-    ensures value { result ≡ lookup (is_at (key_order.ghosts.cmp key.now)) keys.now }
+/// What brought what a name stands for in one namespace.
+fn brought_by_name(names: &ByName, name: &Name) -> Option<Brought>
+    ensures value { result ≡ item_at names.now name.now }
 {
-    match keys.get(key) {
+    match names.get(name) {
         Some(by) => Some(by.brought()),
         None => None,
     }
 }
 
-/// What brought what stands in a slot.
-pub(crate) fn brought_at(modules: &BTreeMap<u32, BroughtKeys>, slot: &Slot) -> Option<Brought>
-    ensures value { result ≡ brought_in (lookup (is_at (nat_cmp slot.now.at)) modules.now.entries) slot.now.key }
+/// Writes what brought what a name stands for in one namespace.
+fn write_name(names: &mut ByName, name: &Name, by: Bringer) -> Result<(), AllocError>
+    ensures ok { OnOk result ((other : List ℕ) → item_at names.new other
+        ≡ cond (is_eq (slice_cmp nat_cmp name.now other)) (Some by) (item_at names.old other)) }
 {
-    match modules.get(&slot.at) {
-        Some(keys) => brought_among(keys, &slot.key),
-        None => None,
+    names.insert(name.clone()?, by)
+}
+
+impl BroughtNames {
+    /// Nothing was brought.
+    fn new(alloc: Global) -> BroughtNames
+        ensures value { result ≡ nothing_brought_in }
+    {
+        BroughtNames {
+            types: ByName::new(alloc),
+            values: ByName::new(alloc),
+            macros: ByName::new(alloc),
+        }
+    }
+
+    /// What brought what stands at a key.
+    fn get(&self, key: &Key) -> Option<Brought>
+        ensures value { result ≡ brought_in (Some self.now) key.now }
+    {
+        match key {
+            Key::Types(name) => brought_by_name(&self.types, name),
+            Key::Values(name) => brought_by_name(&self.values, name),
+            Key::Macros(name) => brought_by_name(&self.macros, name),
+            Key::Unnamed(_) => None,
+        }
+    }
+
+    /// Writes what brought what stands at a key.
+    fn write(&mut self, key: &Key, by: Bringer) -> Result<(), AllocError>
+        ensures ok { OnOk result ((other : Key) → brought_in (Some self.new) other
+            ≡ cond (is_eq (key_order.ghosts.cmp key.now other)) (kept_of key.now by) (brought_in (Some self.old) other)) }
+    {
+        match key {
+            Key::Types(name) => write_name(&mut self.types, name, by),
+            Key::Values(name) => write_name(&mut self.values, name, by),
+            Key::Macros(name) => write_name(&mut self.macros, name, by),
+            Key::Unnamed(_) => Ok(()),
+        }
+    }
+
+    /// Nothing has brought what stands at a key.
+    fn forget(&mut self, key: &Key)
+        ensures value { (other : Key) → brought_in (Some self.new) other
+            ≡ cond (is_eq (key_order.ghosts.cmp key.now other)) None (brought_in (Some self.old) other) }
+    {
+        match key {
+            Key::Types(name) => self.types.remove(name),
+            Key::Values(name) => self.values.remove(name),
+            Key::Macros(name) => self.macros.remove(name),
+            Key::Unnamed(_) => {}
+        }
     }
 }
 
-/// Writes what brought what stands at a key of a module.
-fn write_among(keys: &mut BroughtKeys, key: &Key, by: Bringer) -> Result<(), AllocError>
-    ensures ok { OnOk result ((other : Key) → lookup (is_at (key_order.ghosts.cmp other)) keys.new
-        ≡ cond (is_eq (key_order.ghosts.cmp key.now other)) (Some by) (lookup (is_at (key_order.ghosts.cmp other)) keys.old)) }
+/// What brought what stands in a slot.
+pub(crate) fn brought_at(modules: &BTreeMap<u32, BroughtNames>, slot: &Slot) -> Option<Brought>
+    ensures value { result ≡ brought_in (lookup (is_at (nat_cmp slot.now.at)) modules.now.entries) slot.now.key }
 {
-    keys.insert(key.clone()?, by)
+    match modules.get(&slot.at) {
+        Some(names) => names.get(&slot.key),
+        None => None,
+    }
 }
 
 /// Writes what brought what stands in a slot.
 pub(crate) fn write_brought(
     alloc: Global,
-    modules: &mut BTreeMap<u32, BroughtKeys>,
+    modules: &mut BTreeMap<u32, BroughtNames>,
     slot: &Slot,
     by: Bringer,
 ) -> Result<(), AllocError>
     ensures ok { OnOk result ((other : Slot) → brought_in (lookup (is_at (nat_cmp other.at)) modules.new.entries) other.key
-        ≡ with_brought (λ s. brought_in (lookup (is_at (nat_cmp s.at)) modules.old.entries) s.key) slot.now (Some by) other) }
+        ≡ with_brought (λ s. brought_in (lookup (is_at (nat_cmp s.at)) modules.old.entries) s.key) slot.now (kept_of slot.now.key by) other) }
 {
     match modules.get_mut(&slot.at) {
-        Some(keys) => write_among(keys, &slot.key, by),
+        Some(names) => names.write(&slot.key, by),
         None => write_first(alloc, modules, slot, by),
     }
 }
@@ -238,27 +307,27 @@ pub(crate) fn write_brought(
 /// Writes the first of a module.
 fn write_first(
     alloc: Global,
-    modules: &mut BTreeMap<u32, BroughtKeys>,
+    modules: &mut BTreeMap<u32, BroughtNames>,
     slot: &Slot,
     by: Bringer,
 ) -> Result<(), AllocError>
     requires absent { lookup (is_at (nat_cmp slot.now.at)) modules.old.entries ≡ None }
     ensures ok { OnOk result ((other : Slot) → brought_in (lookup (is_at (nat_cmp other.at)) modules.new.entries) other.key
-        ≡ with_brought (λ s. brought_in (lookup (is_at (nat_cmp s.at)) modules.old.entries) s.key) slot.now (Some by) other) }
+        ≡ with_brought (λ s. brought_in (lookup (is_at (nat_cmp s.at)) modules.old.entries) s.key) slot.now (kept_of slot.now.key by) other) }
 {
-    let mut keys = BroughtKeys::new(alloc);
-    write_among(&mut keys, &slot.key, by)?;
-    modules.insert(slot.at, keys)?;
+    let mut names = BroughtNames::new(alloc);
+    names.write(&slot.key, by)?;
+    modules.insert(slot.at, names)?;
     Ok(())
 }
 
 /// Nothing has brought what stands in a slot.
-pub(crate) fn forget_brought(modules: &mut BTreeMap<u32, BroughtKeys>, slot: &Slot)
+pub(crate) fn forget_brought(modules: &mut BTreeMap<u32, BroughtNames>, slot: &Slot)
     ensures value { (other : Slot) → brought_in (lookup (is_at (nat_cmp other.at)) modules.new.entries) other.key
         ≡ with_brought (λ s. brought_in (lookup (is_at (nat_cmp s.at)) modules.old.entries) s.key) slot.now None other }
 {
     match modules.get_mut(&slot.at) {
-        Some(keys) => keys.remove(&slot.key),
+        Some(names) => names.forget(&slot.key),
         None => {}
     }
 }

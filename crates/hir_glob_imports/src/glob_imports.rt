@@ -5,7 +5,7 @@ ghost use Rattle.hir_glob_imports.specs.declared.edge.Key.{Key};
 ghost use Rattle.hir_glob_imports.specs.Rules.{with_brought, noted};
 ghost use Rattle.hir_glob_imports.specs.Waves.{brought_of, has_same_ends};
 
-use crate::brought::{BroughtKeys, SeenCache, brought_at};
+use crate::brought::{BroughtNames, SeenCache, brought_at};
 use crate::edge::{Brought, Edge, Key, Slot, Target};
 use crate::index::EdgesByModule;
 use std::alloc::{AllocError, Global};
@@ -15,7 +15,7 @@ use std::marker::Model;
 /// The globs of a map that were recorded, what each brought, and where changes have yet to go along them.
 pub struct GlobImports {
     pub(crate) edges: Vec<Edge>,
-    pub(crate) brought: BTreeMap<u32, BroughtKeys>,
+    pub(crate) brought: BTreeMap<u32, BroughtNames>,
     pub(crate) cache: SeenCache,
     pub(crate) pending: Vec<(usize, Key)>,
     pub(crate) out_of: EdgesByModule,

@@ -1,21 +1,46 @@
 //! Edges by the module at one of their ends.
-ghost use Rattle.std.specs.Prelude.{◌≡◌, ℕ, [], OnOk, Contains};
-ghost use Rattle.hir_glob_imports.specs.Inner.{edges_at};
+ghost use Rattle.std.specs.Prelude.{◌≡◌, ◌<◌, ℕ, List, OnOk, Contains, length};
+ghost use Rattle.hir_glob_imports.specs.Inner.{edges_among, edges_at};
 
 use std::alloc::{AllocError, Global};
-use std::collections::BTreeMap;
 
 /// By the number of a module, the numbers of edges.
 #[derive(Drop)]
 pub(crate) struct EdgesByModule {
-    lists: BTreeMap<u32, Vec<usize>>,
+    lists: Vec<Vec<usize>>,
     alloc: Global,
+}
+
+/// Lists without edges are put behind the others, until there is one at a place.
+fn lengthen(
+    alloc: Global,
+    lists: &mut Vec<Vec<usize>>,
+    at: usize,
+) -> Result<(), AllocError>
+    ensures same { (of : ℕ) → edges_among lists.new.items of ≡ edges_among lists.old.items of }
+    ensures long { OnOk result (at < length lists.new.items) }
+{
+    'next: while lists.len() <= at {
+        lists.push(Vec::new(alloc))?;
+    }
+    Ok(())
+}
+
+/// Puts an edge behind the others of a list.
+fn push_at(lists: &mut Vec<Vec<usize>>, at: usize, edge: usize) -> Result<(), AllocError>
+    requires there { at < length lists.old.items }
+    ensures added { OnOk result (Contains (edges_among lists.new.items at) edge) }
+    ensures kept { (of other : ℕ) → Contains (edges_among lists.old.items of) other → Contains (edges_among lists.new.items of) other }
+{
+    let list = &mut lists[at];
+    list.push(edge)?;
+    Ok(())
 }
 
 impl EdgesByModule {
     pub(crate) fn new(alloc: Global) -> EdgesByModule {
         EdgesByModule {
-            lists: BTreeMap::new(alloc),
+            lists: Vec::new(alloc),
             alloc,
         }
     }
@@ -24,7 +49,7 @@ impl EdgesByModule {
     pub(crate) fn at(&self, at: u32) -> &[usize]
         ensures value { result.now ≡ edges_at self.now at }
     {
-        match self.lists.get(&at) {
+        match self.lists.get(at as usize) {
             Some(list) => list.as_slice(),
             None => &[],
         }
@@ -34,23 +59,7 @@ impl EdgesByModule {
         ensures added { OnOk result (Contains (edges_at self.new at) edge) }
         ensures kept { (of other : ℕ) → Contains (edges_at self.old of) other → Contains (edges_at self.new of) other }
     {
-        match self.lists.get_mut(&at) {
-            Some(list) => {
-                list.push(edge)?;
-                Ok(())
-            }
-            None => self.add_first(at, edge),
-        }
-    }
-
-    fn add_first(&mut self, at: u32, edge: usize) -> Result<(), AllocError>
-        requires absent { edges_at self.old at ≡ [] }
-        ensures added { OnOk result (Contains (edges_at self.new at) edge) }
-        ensures kept { (of other : ℕ) → Contains (edges_at self.old of) other → Contains (edges_at self.new of) other }
-    {
-        let mut list = Vec::new(self.alloc);
-        list.push(edge)?;
-        self.lists.insert(at, list)?;
-        Ok(())
+        lengthen(self.alloc, &mut self.lists, at as usize)?;
+        push_at(&mut self.lists, at as usize, edge)
     }
 }

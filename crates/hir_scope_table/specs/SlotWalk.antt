@@ -5,6 +5,6 @@ use Rattle.hir_scope_table.specs.declared.slot_walk.SlotWalk.TheVariants.{Types,
 use Rattle.hir_scope_table.specs.Slots.{types_in, values_in, macros_in}
 
 abbrev pub walk_left : {X T V M : Type 0} → SlotWalk X T V M → List (List ℕ × X)
-walk_left (Types es) = types_in es.now
-walk_left (Values es) = values_in es.now
-walk_left (Macros es) = macros_in es.now
+walk_left (Types es) = types_in es
+walk_left (Values es) = values_in es
+walk_left (Macros es) = macros_in es

@@ -1,8 +1,8 @@
 //! A name of a scope, and what it stands for there.
-ghost use Rattle.std.specs.Prelude.{◌≡◌, not, Option, None, IfOk, option_map, option_copied};
+ghost use Rattle.std.specs.Prelude.{◌≡◌, Option, None, IfOk, option_map, option_copied};
 ghost use Rattle.hir_scope_table.specs.Slots.{Slots, is_vacant};
 ghost use Rattle.hir_scope_item.specs.Bindings.{first_of};
-ghost use Rattle.hir_scope_table.specs.Inner.Kept.{unboxed, over, marked, no_slots, revised, without_value};
+ghost use Rattle.hir_scope_table.specs.Inner.Kept.{unboxed, over, marked, no_slots, revised, without_value, after_edit};
 
 use hir_ids::name::Name;
 use std::alloc::{AllocError, Global};
@@ -69,6 +69,23 @@ pub(crate) struct Filling<T, V, M> {
     types: Option<Box<T>>,
     values: Option<Box<V>>,
     macros: Option<Box<M>>,
+}
+
+/// What is changed of a name.
+#[derive(Drop)]
+pub(crate) enum Edit<T, V, M> {
+    /// What is given goes into the slots, in place of what stands there.
+    Fill(Filling<T, V, M>),
+    /// The name is unresolved.
+    Mark,
+    /// What the name stands for in types, where it stands for something.
+    Type(T),
+    /// The same in values.
+    Value(V),
+    /// The same in macros.
+    Macro(M),
+    /// The name stands for nothing in values.
+    RemoveValue,
 }
 
 fn boxed<X: Drop>(alloc: Global, item: Option<X>) -> Result<Option<Box<X>>, AllocError>
@@ -179,7 +196,7 @@ impl<T, V, M> Entry<T, V, M> {
     }
 
     /// Puts what is given into the slots, in place of what stands there.
-    pub(crate) fn fill(&mut self, filling: Filling<T, V, M>)
+    fn fill(&mut self, filling: Filling<T, V, M>)
     where
         T: Drop,
         V: Drop,
@@ -196,18 +213,15 @@ impl<T, V, M> Entry<T, V, M> {
         replace(&mut self.kept.macros, macros);
     }
 
-    /// Notes that the name is unresolved, and says whether it wasn't.
-    pub(crate) fn mark(&mut self) -> bool
+    /// Notes that the name is unresolved.
+    pub(crate) fn mark(&mut self)
         ensures value { self.new ≡ (self.old.0, marked self.old.1) }
-        ensures changed { result ≡ not self.old.1.unresolved }
     {
-        let was = self.kept.unresolved;
         self.kept.unresolved = true;
-        !was
     }
 
     /// Writes what the name stands for in types, where it stands for something.
-    pub(crate) fn set_type(&mut self, item: T)
+    fn set_type(&mut self, item: T)
     where
         T: Drop,
         ensures value { self.new ≡ (self.old.0, record self.old.1 { types = option_map (λ _. item) self.old.1.types }) }
@@ -216,7 +230,7 @@ impl<T, V, M> Entry<T, V, M> {
     }
 
     /// The same in values.
-    pub(crate) fn set_value(&mut self, item: V)
+    fn set_value(&mut self, item: V)
     where
         V: Drop,
         ensures value { self.new ≡ (self.old.0, record self.old.1 { values = option_map (λ _. item) self.old.1.values }) }
@@ -225,7 +239,7 @@ impl<T, V, M> Entry<T, V, M> {
     }
 
     /// The same in macros.
-    pub(crate) fn set_macro(&mut self, item: M)
+    fn set_macro(&mut self, item: M)
     where
         M: Drop,
         ensures value { self.new ≡ (self.old.0, record self.old.1 { macros = option_map (λ _. item) self.old.1.macros }) }
@@ -253,12 +267,30 @@ impl<T, V, M> Entry<T, V, M> {
     }
 
     /// Takes out what the name stands for in values.
-    pub(crate) fn remove_value(&mut self)
+    fn remove_value(&mut self)
     where
         V: Drop,
         ensures value { self.new ≡ (self.old.0, without_value self.old.1) }
     {
         self.kept.values = None;
+    }
+
+    /// Changes the name's slots.
+    pub(crate) fn edit(&mut self, edit: Edit<T, V, M>)
+    where
+        T: Drop,
+        V: Drop,
+        M: Drop,
+        ensures value { self.new ≡ (self.old.0, after_edit edit self.old.1) }
+    {
+        match edit {
+            Edit::Fill(filling) => self.fill(filling),
+            Edit::Mark => self.mark(),
+            Edit::Type(item) => self.set_type(item),
+            Edit::Value(item) => self.set_value(item),
+            Edit::Macro(item) => self.set_macro(item),
+            Edit::RemoveValue => self.remove_value(),
+        }
     }
 
     /// Whether nothing is said of the name.

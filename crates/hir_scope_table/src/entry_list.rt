@@ -10,10 +10,11 @@ ghost use Rattle.std.specs.Cmp.Lexicographic.{slice_cmp};
 ghost use Rattle.hir_scope_table.specs.Entries.{any_value, item_at, with_some_entry};
 ghost use Rattle.hir_scope_table.specs.Probe.{binary_digits, position_of};
 ghost use Rattle.hir_scope_table.specs.Slots.{Slots, NamedSlots, is_vacant, named, slot_found, entry_found, types_in, values_in, macros_in, unresolved_in};
-ghost use Rattle.hir_scope_table.specs.Inner.Kept.{unboxed, over, marked, no_slots, revised_entry, slots_at, with_type, with_value, with_macro, edited, without_value, without_value_of};
+ghost use Rattle.hir_scope_table.specs.Inner.Kept.{unboxed, over, marked, no_slots, after_edit, revised_entry, slots_at, with_type, with_value, with_macro, edited, without_value, without_value_of};
 ghost use Rattle.hir_scope_table.specs.Inner.Place.{BelongsAt, IsKept};
 
-use crate::entry::{Entry, Filling, Revise};
+use crate::entry::{Edit, Entry, Filling, Revise};
+use crate::gap_list::{GapList, GapWalk};
 use crate::probe::{Probe, place_among, place_of};
 use hir_ids::name::Name;
 use std::alloc::{AllocError, Global};
@@ -23,11 +24,10 @@ use std::marker::Model;
 /// Names with what they stand for in each namespace, and the names that are unresolved.
 ///
 /// The entries stand in the order of their names, each name once, and each entry says something of its name. A look-up
-/// begins where the last one ended, and else halves the list. One place moves what stands behind it, which is one pointer
-/// for each name.
+/// begins where the last one ended, and else halves the list. A name that is put in beside the last one moves no other.
 #[derive(Drop)]
 pub struct EntryList<T, V, M> {
-    entries: Vec<Entry<T, V, M>>,
+    entries: GapList<Entry<T, V, M>>,
     /// Where the last look-up ended.
     near: Cell<usize>,
     alloc: Global,
@@ -40,9 +40,9 @@ impl<T, V, M> Model for EntryList<T, V, M> {
 
     ghost use Rattle.hir_scope_table.specs.Inner.Place.{BelongsAt, IsKept};
 
-    ghost view = { λ l. l.entries.items };
+    ghost view = { λ l. l.entries };
 
-    ghost invariant = { λ l. IsKept l.entries.items };
+    ghost invariant = { λ l. IsKept l.entries };
 }
 
 impl<T, V, M> EntryList<T, V, M> {
@@ -51,17 +51,17 @@ impl<T, V, M> EntryList<T, V, M> {
         ensures value { result ≡ [] }
     {
         EntryList {
-            entries: Vec::new(alloc),
+            entries: GapList::new(alloc),
             near: Cell::new(0),
             alloc,
         }
     }
 
     /// The entries, in the order of names.
-    pub fn as_slice(&self) -> &[Entry<T, V, M>]
-        ensures value { result.now ≡ self.now }
+    pub fn walk(&self) -> GapWalk<'_, Entry<T, V, M>>
+        ensures value { result ≡ self.now }
     {
-        self.entries.as_slice()
+        self.entries.walk()
     }
 
     // The names ascend, and each entry says something of its name.
@@ -77,7 +77,7 @@ impl<T, V, M> EntryList<T, V, M> {
         ensures position { result.0 ≡ position_of (slice_cmp nat_cmp) (keys_of self.now) name.now }
         ensures count { result.1 ≤ binary_digits (length self.now) }
     {
-        let place = place_among(self.entries.as_slice(), name);
+        let place = place_among(&self.entries, name);
         let probe = place.probe;
         let at = position(&self.entries, name, place.at, place.found);
         (at, probe)
@@ -95,30 +95,30 @@ impl<T, V, M> EntryList<T, V, M> {
 
 /// The position of a name that belongs at a place.
 fn position<T, V, M>(
-    entries: &Vec<Entry<T, V, M>>,
+    entries: &GapList<Entry<T, V, M>>,
     name: &Name,
     at: usize,
     found: bool,
 ) -> Option<usize>
-    requires kept { IsKept entries.now.items }
-    requires belongs { BelongsAt (slice_cmp nat_cmp name.now) entries.now.items at found }
-    ensures value { result ≡ position_of (slice_cmp nat_cmp) (keys_of entries.now.items) name.now }
+    requires kept { IsKept entries.now }
+    requires belongs { BelongsAt (slice_cmp nat_cmp name.now) entries.now at found }
+    ensures value { result ≡ position_of (slice_cmp nat_cmp) (keys_of entries.now) name.now }
 {
     if found { Some(at) } else { None }
 }
 
 /// The entry of a name, if it has one.
 fn entry_of<'a, T, V, M>(
-    entries: &'a Vec<Entry<T, V, M>>,
+    entries: &'a GapList<Entry<T, V, M>>,
     near: &Cell<usize>,
     name: &Name,
 ) -> Option<&'a Entry<T, V, M>>
-    requires kept { IsKept entries.now.items }
-    ensures value { entry_found result ≡ item_at entries.now.items name.now }
+    requires kept { IsKept entries.now }
+    ensures value { entry_found result ≡ item_at entries.now name.now }
 {
     let place = place_of(entries, name, near);
     if place.found {
-        Some(&entries[place.at])
+        Some(entries.at(place.at))
     } else {
         None
     }
@@ -135,40 +135,36 @@ fn is_something<T: Copy, V: Copy, M: Copy>(
     types.is_some() || (values.is_some() || macros.is_some())
 }
 
-fn fill_at<T: Copy, V: Copy, M: Copy>(
+fn edit_within<T: Copy, V: Copy, M: Copy>(
     entries: &mut Vec<Entry<T, V, M>>,
     at: usize,
-    filling: Filling<T, V, M>,
+    edit: Edit<T, V, M>,
 )
     requires there { at < length entries.old.items }
     ensures value { (e : List ℕ × Slots T V M) → slice_get entries.old.items at ≡ Some e
-        → entries.new.items ≡ slice_set entries.old.items at (e.0, over (unboxed filling.types) (unboxed filling.values) (unboxed filling.macros) e.1) }
+        → entries.new.items ≡ slice_set entries.old.items at (e.0, after_edit edit e.1) }
 {
     let entry = &mut entries[at];
-    entry.fill(filling);
+    entry.edit(edit);
 }
 
-fn mark_at<T: Copy, V: Copy, M: Copy>(entries: &mut Vec<Entry<T, V, M>>, at: usize) -> bool
-    requires there { at < length entries.old.items }
-    ensures value { (e : List ℕ × Slots T V M) → slice_get entries.old.items at ≡ Some e
-        → entries.new.items ≡ slice_set entries.old.items at (e.0, marked e.1) }
-    ensures changed { (e : List ℕ × Slots T V M) → slice_get entries.old.items at ≡ Some e → result ≡ not e.1.unresolved }
-{
-    let entry = &mut entries[at];
-    entry.mark()
-}
-
-fn insert_at<T: Copy, V: Copy, M: Copy>(
-    entries: &mut Vec<Entry<T, V, M>>,
+/// Changes the slots of an entry.
+fn edit_at<T: Copy, V: Copy, M: Copy>(
+    entries: &mut GapList<Entry<T, V, M>>,
     at: usize,
-    entry: Entry<T, V, M>,
-) -> Result<(), AllocError>
-    requires within { at ≤ length entries.old.items }
-    ensures ok { OnOk result (entries.new.items ≡ insert entries.old.items at entry) }
-    ensures err { OnErr result (entries.new.items ≡ entries.old.items) }
+    edit: Edit<T, V, M>,
+)
+    requires there { at < length entries.old }
+    ensures value { (e : List ℕ × Slots T V M) → slice_get entries.old at ≡ Some e
+        → entries.new ≡ slice_set entries.old at (e.0, after_edit edit e.1) }
 {
-    entries.insert(at, entry)?;
-    Ok(())
+    let before = entries.front.len();
+    if at < before {
+        edit_within(&mut entries.front, at, edit);
+    } else {
+        let place = entries.back.len() - 1 - (at - before);
+        edit_within(&mut entries.back, place, edit);
+    }
 }
 
 fn filled_entry<T: Copy, V: Copy, M: Copy>(
@@ -188,135 +184,110 @@ fn marked_entry<T: Copy, V: Copy, M: Copy>(
     ensures ok { IfOk result (λ e. e ≡ (name, marked no_slots)) }
 {
     let mut entry = Entry::new(alloc, name, Filling::none())?;
-    let _ = entry.mark();
+    entry.mark();
     Ok(entry)
 }
 
 /// Puts what is given into the slots of a name, which gets an entry if it has none.
 fn fill<T: Copy, V: Copy, M: Copy>(
     alloc: Global,
-    entries: &mut Vec<Entry<T, V, M>>,
+    entries: &mut GapList<Entry<T, V, M>>,
     near: &Cell<usize>,
     name: &Name,
     filling: Filling<T, V, M>,
 ) -> Result<(), AllocError>
-    requires kept { IsKept entries.old.items }
-    ensures ok { OnOk result (entries.new.items ≡ insert_entry (slice_cmp nat_cmp) entries.old.items name.now
-        (over (unboxed filling.types) (unboxed filling.values) (unboxed filling.macros) (slots_at entries.old.items name.now))) }
-    ensures err { OnErr result (entries.new.items ≡ entries.old.items) }
+    requires kept { IsKept entries.old }
+    ensures ok { OnOk result (entries.new ≡ insert_entry (slice_cmp nat_cmp) entries.old name.now
+        (over (unboxed filling.types) (unboxed filling.values) (unboxed filling.macros) (slots_at entries.old name.now))) }
+    ensures err { OnErr result (entries.new ≡ entries.old) }
 {
     let place = place_of(entries, name, near);
     if place.found {
-        fill_at(entries, place.at, filling);
+        edit_at(entries, place.at, Edit::Fill(filling));
         Ok(())
     } else {
         let entry = filled_entry(alloc, name, filling)?;
-        insert_at(entries, place.at, entry)
+        entries.insert(place.at, entry)
     }
 }
 
 /// Notes that a name is unresolved, which gets an entry if it has none; says whether it wasn't.
 fn note<T: Copy, V: Copy, M: Copy>(
     alloc: Global,
-    entries: &mut Vec<Entry<T, V, M>>,
+    entries: &mut GapList<Entry<T, V, M>>,
     near: &Cell<usize>,
     name: Name,
 ) -> Result<bool, AllocError>
-    requires kept { IsKept entries.old.items }
-    ensures ok { OnOk result (entries.new.items ≡ insert_entry (slice_cmp nat_cmp) entries.old.items name
-        (marked (slots_at entries.old.items name))) }
-    ensures changed { IfOk result (λ new. new ≡ not (slots_at entries.old.items name).unresolved) }
-    ensures err { OnErr result (entries.new.items ≡ entries.old.items) }
+    requires kept { IsKept entries.old }
+    ensures ok { OnOk result (entries.new ≡ insert_entry (slice_cmp nat_cmp) entries.old name
+        (marked (slots_at entries.old name))) }
+    ensures changed { IfOk result (λ new. new ≡ not (slots_at entries.old name).unresolved) }
+    ensures err { OnErr result (entries.new ≡ entries.old) }
 {
     let place = place_of(entries, &name, near);
     if place.found {
-        Ok(mark_at(entries, place.at))
+        let was = entries.at(place.at).is_unresolved();
+        edit_at(entries, place.at, Edit::Mark);
+        Ok(!was)
     } else {
         let entry = marked_entry(alloc, name)?;
-        insert_at(entries, place.at, entry)?;
+        entries.insert(place.at, entry)?;
         Ok(true)
     }
 }
 
-fn set_type_at<T: Copy, V: Copy, M: Copy>(entries: &mut Vec<Entry<T, V, M>>, at: usize, item: T)
-    requires there { at < length entries.old.items }
-    ensures value { (e : List ℕ × Slots T V M) → slice_get entries.old.items at ≡ Some e
-        → entries.new.items ≡ slice_set entries.old.items at (e.0, with_type item e.1) }
-{
-    let entry = &mut entries[at];
-    entry.set_type(item);
-}
-
 fn set_type_of<T: Copy, V: Copy, M: Copy>(
-    entries: &mut Vec<Entry<T, V, M>>,
+    entries: &mut GapList<Entry<T, V, M>>,
     near: &Cell<usize>,
     name: &Name,
     item: T,
 )
-    requires kept { IsKept entries.old.items }
-    ensures value { entries.new.items ≡ edited (with_type item) entries.old.items name.now (item_at entries.old.items name.now) }
+    requires kept { IsKept entries.old }
+    ensures value { entries.new ≡ edited (with_type item) entries.old name.now (item_at entries.old name.now) }
 {
     let place = place_of(entries, name, near);
     if place.found {
-        set_type_at(entries, place.at, item);
+        edit_at(entries, place.at, Edit::Type(item));
     }
 }
 
-fn set_value_at<T: Copy, V: Copy, M: Copy>(entries: &mut Vec<Entry<T, V, M>>, at: usize, item: V)
-    requires there { at < length entries.old.items }
-    ensures value { (e : List ℕ × Slots T V M) → slice_get entries.old.items at ≡ Some e
-        → entries.new.items ≡ slice_set entries.old.items at (e.0, with_value item e.1) }
-{
-    let entry = &mut entries[at];
-    entry.set_value(item);
-}
-
 fn set_value_of<T: Copy, V: Copy, M: Copy>(
-    entries: &mut Vec<Entry<T, V, M>>,
+    entries: &mut GapList<Entry<T, V, M>>,
     near: &Cell<usize>,
     name: &Name,
     item: V,
 )
-    requires kept { IsKept entries.old.items }
-    ensures value { entries.new.items ≡ edited (with_value item) entries.old.items name.now (item_at entries.old.items name.now) }
+    requires kept { IsKept entries.old }
+    ensures value { entries.new ≡ edited (with_value item) entries.old name.now (item_at entries.old name.now) }
 {
     let place = place_of(entries, name, near);
     if place.found {
-        set_value_at(entries, place.at, item);
+        edit_at(entries, place.at, Edit::Value(item));
     }
 }
 
-fn set_macro_at<T: Copy, V: Copy, M: Copy>(entries: &mut Vec<Entry<T, V, M>>, at: usize, item: M)
-    requires there { at < length entries.old.items }
-    ensures value { (e : List ℕ × Slots T V M) → slice_get entries.old.items at ≡ Some e
-        → entries.new.items ≡ slice_set entries.old.items at (e.0, with_macro item e.1) }
-{
-    let entry = &mut entries[at];
-    entry.set_macro(item);
-}
-
 fn set_macro_of<T: Copy, V: Copy, M: Copy>(
-    entries: &mut Vec<Entry<T, V, M>>,
+    entries: &mut GapList<Entry<T, V, M>>,
     near: &Cell<usize>,
     name: &Name,
     item: M,
 )
-    requires kept { IsKept entries.old.items }
-    ensures value { entries.new.items ≡ edited (with_macro item) entries.old.items name.now (item_at entries.old.items name.now) }
+    requires kept { IsKept entries.old }
+    ensures value { entries.new ≡ edited (with_macro item) entries.old name.now (item_at entries.old name.now) }
 {
     let place = place_of(entries, name, near);
     if place.found {
-        set_macro_at(entries, place.at, item);
+        edit_at(entries, place.at, Edit::Macro(item));
     }
 }
 
 fn remove_value_of<T: Copy, V: Copy, M: Copy>(
-    entries: &mut Vec<Entry<T, V, M>>,
+    entries: &mut GapList<Entry<T, V, M>>,
     near: &Cell<usize>,
     name: &Name,
 )
-    requires kept { IsKept entries.old.items }
-    ensures value { entries.new.items ≡ without_value_of entries.old.items name.now (item_at entries.old.items name.now) }
+    requires kept { IsKept entries.old }
+    ensures value { entries.new ≡ without_value_of entries.old name.now (item_at entries.old name.now) }
 {
     let place = place_of(entries, name, near);
     if place.found {
@@ -427,7 +398,7 @@ fn revise_at<T: Copy, V: Copy, M: Copy, R: Revise<T, V, M>>(
 }
 
 /// Writes each entry anew.
-fn revise_entries<T: Copy, V: Copy, M: Copy, R: Revise<T, V, M>>(
+fn revise_each<T: Copy, V: Copy, M: Copy, R: Revise<T, V, M>>(
     entries: &mut Vec<Entry<T, V, M>>,
     by: &R,
 )
@@ -438,17 +409,27 @@ fn revise_entries<T: Copy, V: Copy, M: Copy, R: Revise<T, V, M>>(
     }
 }
 
-/// Takes out the value of an entry, and the entry if it says nothing of its name then.
-fn clear_value<T: Copy, V: Copy, M: Copy>(entries: &mut Vec<Entry<T, V, M>>, at: usize)
-    requires there { at < length entries.old.items }
-    ensures stays { (e : List ℕ × Slots T V M) → slice_get entries.old.items at ≡ Some e → is_vacant (without_value e.1) ≡ false
-        → entries.new.items ≡ slice_set entries.old.items at (e.0, without_value e.1) }
-    ensures goes { (e : List ℕ × Slots T V M) → slice_get entries.old.items at ≡ Some e → is_vacant (without_value e.1) ≡ true
-        → entries.new.items ≡ remove entries.old.items at }
+/// The same, of those of a list.
+fn revise_entries<T: Copy, V: Copy, M: Copy, R: Revise<T, V, M>>(
+    entries: &mut GapList<Entry<T, V, M>>,
+    by: &R,
+)
+    ensures value { entries.new ≡ map (revised_entry (R.type_of by.now) (R.value_of by.now) (R.macro_of by.now)) entries.old }
 {
-    let entry = &mut entries[at];
-    entry.remove_value();
-    if entries[at].is_vacant() {
+    revise_each(&mut entries.front, by);
+    revise_each(&mut entries.back, by);
+}
+
+/// Takes out the value of an entry, and the entry if it says nothing of its name then.
+fn clear_value<T: Copy, V: Copy, M: Copy>(entries: &mut GapList<Entry<T, V, M>>, at: usize)
+    requires there { at < length entries.old }
+    ensures stays { (e : List ℕ × Slots T V M) → slice_get entries.old at ≡ Some e → is_vacant (without_value e.1) ≡ false
+        → entries.new ≡ slice_set entries.old at (e.0, without_value e.1) }
+    ensures goes { (e : List ℕ × Slots T V M) → slice_get entries.old at ≡ Some e → is_vacant (without_value e.1) ≡ true
+        → entries.new ≡ remove entries.old at }
+{
+    edit_at(entries, at, Edit::RemoveValue);
+    if entries.at(at).is_vacant() {
         entries.remove(at);
     }
 }

@@ -1,6 +1,7 @@
 //! A list in which elements that are put in side by side move no others.
-ghost use Rattle.std.specs.Prelude.{◌≡◌, ◌+◌, ◌-◌, ◌<◌, ◌≤◌, ◌++◌, [], Some, length, reverse, slice_get, slice_set, slice_index_or, OnOk, OnErr};
+ghost use Rattle.std.specs.Prelude.{List, ◌≡◌, ◌+◌, ◌-◌, ◌<◌, ◌≤◌, ◌++◌, [], Some, length, reverse, slice_get, slice_set, slice_index_or, OnOk, OnErr};
 ghost use Rattle.std.specs.List.{insert, remove};
+ghost use Rattle.std.specs.Iterator.{YieldsFirstRef};
 
 use std::alloc::{AllocError, Global};
 use std::marker::Model;
@@ -13,8 +14,8 @@ use std::marker::Model;
 /// order cost what they would in one list.
 #[derive(Drop)]
 pub struct GapList<E> {
-    front: Vec<E>,
-    back: Vec<E>,
+    pub(crate) front: Vec<E>,
+    pub(crate) back: Vec<E>,
     /// Where the last element was put in.
     last: usize,
 }
@@ -25,6 +26,36 @@ impl<E> Model for GapList<E> {
     ghost Value = { List E };
 
     ghost view = { λ l. l.front.items ++ reverse l.back.items };
+}
+
+/// What is left of a walk over a list.
+#[derive(Drop)]
+pub struct GapWalk<'a, E> {
+    front: &'a [E],
+    back: &'a [E],
+}
+
+impl<'a, E> Model for GapWalk<'a, E> {
+    ghost use Rattle.std.specs.Prelude.{List, ◌++◌, reverse};
+
+    ghost Value = { List E };
+
+    ghost view = { λ w. w.front.now ++ reverse w.back.now };
+}
+
+impl<'a, E> GapWalk<'a, E> {
+    /// The next element.
+    pub fn advance(&mut self) -> Option<&'a E>
+        ensures first { YieldsFirstRef (λ (left : List E). left) self.old result self.new }
+    {
+        if let Some((element, others)) = self.front.split_first() {
+            self.front = others;
+            return Some(element);
+        }
+        let (element, others) = self.back.split_last()?;
+        self.back = others;
+        Some(element)
+    }
 }
 
 /// Whether a place is that of the element that was put in last, or the one behind it.
@@ -124,11 +155,14 @@ impl<E> GapList<E> {
         self.front.len() + self.back.len()
     }
 
-    /// Those before the gap, and those behind it from the last on.
-    pub fn halves(&self) -> (&[E], &[E])
-        ensures value { result.0.now ++ reverse result.1.now ≡ self.now }
+    /// The elements in their order.
+    pub fn walk(&self) -> GapWalk<'_, E>
+        ensures value { result ≡ self.now }
     {
-        (self.front.as_slice(), self.back.as_slice())
+        GapWalk {
+            front: self.front.as_slice(),
+            back: self.back.as_slice(),
+        }
     }
 
     /// Where the last element was put in.

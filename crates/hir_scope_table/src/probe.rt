@@ -7,6 +7,7 @@ ghost use Rattle.hir_scope_table.specs.Probe.{binary_digits};
 ghost use Rattle.hir_scope_table.specs.Inner.Place.{BelongsAt, ComparesAt, IsAboveFirst, IsKept};
 
 use crate::entry::Entry;
+use crate::gap_list::GapList;
 use hir_ids::name::Name;
 use std::cell::Cell;
 use std::cmp::Ordering;
@@ -64,7 +65,7 @@ pub(crate) struct Place {
 
 /// Where a name belongs that is above all entries before one place, and below the one at another.
 fn place_within<T, V, M>(
-    entries: &[Entry<T, V, M>],
+    entries: &GapList<Entry<T, V, M>>,
     name: &Name,
     from: usize,
     to: usize,
@@ -85,7 +86,7 @@ fn place_within<T, V, M>(
     'halves: while left > 0 {
         let half = left / 2;
         let middle = at + half;
-        match probe.compare(name, entries[middle].name()) {
+        match probe.compare(name, entries.at(middle).name()) {
             Ordering::Less => {
                 left = half;
             }
@@ -110,7 +111,7 @@ fn place_within<T, V, M>(
 }
 
 /// Where a name belongs among entries in order.
-pub(crate) fn place_among<T, V, M>(entries: &[Entry<T, V, M>], name: &Name) -> Place
+pub(crate) fn place_among<T, V, M>(entries: &GapList<Entry<T, V, M>>, name: &Name) -> Place
     requires kept { IsKept entries.now }
     ensures belongs { BelongsAt (slice_cmp nat_cmp name.now) entries.now result.at result.found }
     ensures count { result.probe ≤ binary_digits (length entries.now) }
@@ -120,7 +121,7 @@ pub(crate) fn place_among<T, V, M>(entries: &[Entry<T, V, M>], name: &Name) -> P
 
 /// Where a name belongs that is above all entries before a place; it is compared with the one there first.
 fn place_behind<T, V, M>(
-    entries: &[Entry<T, V, M>],
+    entries: &GapList<Entry<T, V, M>>,
     name: &Name,
     from: usize,
     probe: Probe,
@@ -140,7 +141,7 @@ fn place_behind<T, V, M>(
             probe,
         };
     }
-    match probe.compare(name, entries[from].name()) {
+    match probe.compare(name, entries.at(from).name()) {
         Ordering::Less => Place {
             at: from,
             found: false,
@@ -156,7 +157,7 @@ fn place_behind<T, V, M>(
 }
 
 /// Where a name belongs that is below the entry at a place; it is compared with the one before that first.
-fn place_before<T, V, M>(entries: &[Entry<T, V, M>], name: &Name, to: usize, probe: Probe) -> Place
+fn place_before<T, V, M>(entries: &GapList<Entry<T, V, M>>, name: &Name, to: usize, probe: Probe) -> Place
     requires kept { IsKept entries.now }
     requires within { to ≤ length entries.now }
     requires below { ComparesAt (slice_cmp nat_cmp name.now) entries.now to Less }
@@ -173,7 +174,7 @@ fn place_before<T, V, M>(entries: &[Entry<T, V, M>], name: &Name, to: usize, pro
         };
     }
     let last = to - 1;
-    match probe.compare(name, entries[last].name()) {
+    match probe.compare(name, entries.at(last).name()) {
         Ordering::Less => place_within(entries, name, 0, last, probe),
         Ordering::Equal => Place {
             at: last,
@@ -189,7 +190,7 @@ fn place_before<T, V, M>(entries: &[Entry<T, V, M>], name: &Name, to: usize, pro
 }
 
 /// Where a name belongs among entries in order; it is compared with the one at a place first, and then with the one beside that.
-fn place_near<T, V, M>(entries: &[Entry<T, V, M>], name: &Name, near: usize) -> Place
+fn place_near<T, V, M>(entries: &GapList<Entry<T, V, M>>, name: &Name, near: usize) -> Place
     requires kept { IsKept entries.now }
     ensures belongs { BelongsAt (slice_cmp nat_cmp name.now) entries.now result.at result.found }
     ensures count { result.probe ≤ 2 + binary_digits (length entries.now) }
@@ -198,7 +199,7 @@ fn place_near<T, V, M>(entries: &[Entry<T, V, M>], name: &Name, near: usize) -> 
         return place_among(entries, name);
     }
     let mut probe = Probe::new();
-    match probe.compare(name, entries[near].name()) {
+    match probe.compare(name, entries.at(near).name()) {
         Ordering::Less => place_before(entries, name, near, probe),
         Ordering::Equal => Place {
             at: near,
@@ -211,15 +212,15 @@ fn place_near<T, V, M>(entries: &[Entry<T, V, M>], name: &Name, near: usize) -> 
 
 /// The same, among those of a list. Names are often looked up in their order, so a look-up begins where the last one ended.
 pub(crate) fn place_of<T, V, M>(
-    entries: &Vec<Entry<T, V, M>>,
+    entries: &GapList<Entry<T, V, M>>,
     name: &Name,
     near: &Cell<usize>,
 ) -> Place
-    requires kept { IsKept entries.now.items }
-    ensures belongs { BelongsAt (slice_cmp nat_cmp name.now) entries.now.items result.at result.found }
-    ensures count { result.probe ≤ 2 + binary_digits (length entries.now.items) }
+    requires kept { IsKept entries.now }
+    ensures belongs { BelongsAt (slice_cmp nat_cmp name.now) entries.now result.at result.found }
+    ensures count { result.probe ≤ 2 + binary_digits (length entries.now) }
 {
-    let place = place_near(entries.as_slice(), name, near.get());
+    let place = place_near(entries, name, near.get());
     near.set(place.at);
     place
 }

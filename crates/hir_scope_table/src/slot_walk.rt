@@ -5,6 +5,7 @@ ghost use Rattle.hir_scope_table.specs.Slots.{types_in, values_in, macros_in};
 ghost use Rattle.hir_scope_table.specs.SlotWalk.{walk_left};
 
 use crate::entry::Entry;
+use crate::gap_list::GapWalk;
 use hir_ids::name::Name;
 
 /// What is left of a walk over the entries that have something in types, in values or in macros.
@@ -12,16 +13,15 @@ use hir_ids::name::Name;
 /// The items of the namespace that is walked are of type `X`, and those of the others of `T`, `V` and `M`.
 #[derive(Drop)]
 pub enum SlotWalk<'a, X, T, V, M> {
-    Types(&'a [Entry<X, V, M>]),
-    Values(&'a [Entry<T, X, M>]),
-    Macros(&'a [Entry<T, V, X>]),
+    Types(GapWalk<'a, Entry<X, V, M>>),
+    Values(GapWalk<'a, Entry<T, X, M>>),
+    Macros(GapWalk<'a, Entry<T, V, X>>),
 }
 
-fn next_type<'a, X, V, M>(left: &mut &'a [Entry<X, V, M>]) -> Option<(&'a Name, &'a X)>
-    ensures first { YieldsFirstBy deref_pair (λ es. types_in es.now) left.old result left.new }
+fn next_type<'a, X, V, M>(left: &mut GapWalk<'a, Entry<X, V, M>>) -> Option<(&'a Name, &'a X)>
+    ensures first { YieldsFirstBy deref_pair types_in left.old result left.new }
 {
-    'next: while let [entry, others @ ..] = *left {
-        *left = others;
+    'next: while let Some(entry) = left.advance() {
         if let Some(item) = entry.types() {
             return Some((entry.name(), item));
         }
@@ -29,11 +29,10 @@ fn next_type<'a, X, V, M>(left: &mut &'a [Entry<X, V, M>]) -> Option<(&'a Name, 
     None
 }
 
-fn next_value<'a, X, T, M>(left: &mut &'a [Entry<T, X, M>]) -> Option<(&'a Name, &'a X)>
-    ensures first { YieldsFirstBy deref_pair (λ es. values_in es.now) left.old result left.new }
+fn next_value<'a, X, T, M>(left: &mut GapWalk<'a, Entry<T, X, M>>) -> Option<(&'a Name, &'a X)>
+    ensures first { YieldsFirstBy deref_pair values_in left.old result left.new }
 {
-    'next: while let [entry, others @ ..] = *left {
-        *left = others;
+    'next: while let Some(entry) = left.advance() {
         if let Some(item) = entry.values() {
             return Some((entry.name(), item));
         }
@@ -41,11 +40,10 @@ fn next_value<'a, X, T, M>(left: &mut &'a [Entry<T, X, M>]) -> Option<(&'a Name,
     None
 }
 
-fn next_macro<'a, X, T, V>(left: &mut &'a [Entry<T, V, X>]) -> Option<(&'a Name, &'a X)>
-    ensures first { YieldsFirstBy deref_pair (λ es. macros_in es.now) left.old result left.new }
+fn next_macro<'a, X, T, V>(left: &mut GapWalk<'a, Entry<T, V, X>>) -> Option<(&'a Name, &'a X)>
+    ensures first { YieldsFirstBy deref_pair macros_in left.old result left.new }
 {
-    'next: while let [entry, others @ ..] = *left {
-        *left = others;
+    'next: while let Some(entry) = left.advance() {
         if let Some(item) = entry.macros() {
             return Some((entry.name(), item));
         }

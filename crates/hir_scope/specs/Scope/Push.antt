@@ -22,10 +22,21 @@ use Rattle.hir_scope.specs.Bindings.{written_items, written_places, written_reco
 use Rattle.hir_scope.specs.declared.item_scope.push.Candidates.{Candidates}
 use Rattle.hir_scope.specs.Globs.{Place, GlobNames}
 use Rattle.hir_scope.specs.Scope.{ScopeValue}
-use Rattle.hir_per_ns.specs.PerNs.{is_nothing}
+use Rattle.hir_per_ns.specs.PerNs.{Item, is_nothing}
 use Rattle.std.specs.declared.cmp.Ordering.{Ordering}
 use Rattle.hir_per_ns.specs.declared.imports.ImportOrDef.{ImportOrDef}
 use Rattle.hir_scope.specs.Entries.{value_at}
+
+-- ---- an item of one namespace alone
+
+abbrev pub types_alone : Item ModuleDefId ImportOrExternCrate → PerNs
+types_alone item = record { types = Some item; values = None; macros = None }
+
+abbrev pub values_alone : Item ModuleDefId ImportOrGlob → PerNs
+values_alone item = record { types = None; values = Some item; macros = None }
+
+abbrev pub macros_alone : Item MacroId ImportOrExternCrate → PerNs
+macros_alone item = record { types = None; values = None; macros = Some item }
 
 -- ---- the candidates that change their slots
 

@@ -11,6 +11,7 @@ use crate::item_scope::macro_calls::{DeriveAttribute, DeriveAttributes};
 use crate::per_ns::{Item, MacrosItem, TypesItem, ValuesItem};
 use hir_ids::name::Name;
 use hir_scope_table::entry::Entry;
+use hir_scope_table::gap_list::GapWalk;
 use indexmap::IndexMap;
 use std::hash::Hash;
 
@@ -99,11 +100,10 @@ fn same_walk<Def: PartialEq, Import: PartialEq>(
 }
 
 /// The next name that is unresolved.
-fn next_unresolved<'a>(left: &mut &'a [ScopeEntry]) -> Option<&'a Name>
-    ensures first { YieldsFirstRef (λ es. unresolved_in es.now) left.old result left.new }
+fn next_unresolved<'a>(left: &mut GapWalk<'a, ScopeEntry>) -> Option<&'a Name>
+    ensures first { YieldsFirstRef unresolved_in left.old result left.new }
 {
-    'next: while let [entry, others @ ..] = *left {
-        *left = others;
+    'next: while let Some(entry) = left.advance() {
         if entry.is_unresolved() {
             return Some(entry.name());
         }
@@ -112,8 +112,8 @@ fn next_unresolved<'a>(left: &mut &'a [ScopeEntry]) -> Option<&'a Name>
 }
 
 /// Whether the same names are unresolved.
-fn same_unresolved(entries: &[ScopeEntry], other: &[ScopeEntry]) -> bool
-    ensures value { result ≡ pointwise (pointwise nat_eq) (unresolved_in entries.now) (unresolved_in other.now) }
+fn same_unresolved(entries: GapWalk<'_, ScopeEntry>, other: GapWalk<'_, ScopeEntry>) -> bool
+    ensures value { result ≡ pointwise (pointwise nat_eq) (unresolved_in entries.entry) (unresolved_in other.entry) }
 {
     let mut left = entries;
     let mut others = other;
@@ -132,7 +132,7 @@ impl ItemScope {
     fn has_same_unresolved(&self, other: &ItemScope) -> bool
         ensures value { result ≡ pointwise (pointwise nat_eq) self.now.unresolved other.now.unresolved }
     {
-        same_unresolved(self.names.as_slice(), other.names.as_slice())
+        same_unresolved(self.names.walk(), other.names.walk())
     }
 
     fn has_same_bindings(&self, other: &ItemScope) -> bool

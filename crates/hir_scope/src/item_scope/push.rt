@@ -1,9 +1,9 @@
 //! Binding names in a scope, after rust-analyzer's `push_res_with_import`.
-ghost use Rattle.std.specs.Prelude.{◌≡◌, ◌≢◌, true, false, not, OnOk, OnErr, IfOk};
+ghost use Rattle.std.specs.Prelude.{◌≡◌, ◌≢◌, None, Some, true, false, not, OnOk, OnErr, IfOk};
 ghost use Rattle.hir_scope.specs.Bindings.{type_candidate, value_candidate, macro_candidate};
 ghost use Rattle.hir_scope.specs.ImportRecords.{is_glob, reached_by, value_reached_by};
 ghost use Rattle.hir_per_ns.specs.PerNs.{is_nothing};
-ghost use Rattle.hir_scope.specs.Scope.Push.{taken_candidates, written_scope, written_globs, is_unresolved, with_unresolved, pushed_scope, pushed_globs, push_changes, PushesType, PushesValue, PushesMacro, RecordsType, RecordsValue, RecordsMacro, IsNewlyUnresolved, slots_of};
+ghost use Rattle.hir_scope.specs.Scope.Push.{types_alone, values_alone, macros_alone, taken_candidates, written_scope, written_globs, is_unresolved, with_unresolved, pushed_scope, pushed_globs, push_changes, PushesType, PushesValue, PushesMacro, RecordsType, RecordsValue, RecordsMacro, IsNewlyUnresolved, slots_of};
 
 use crate::glob_imports::PerNsGlobImports;
 use crate::imports::{ImportOrDef, ImportOrExternCrate, ImportOrGlob};
@@ -167,12 +167,229 @@ impl ItemScope {
         ensures err { OnErr result (self.new ≡ self.old) }
         ensures err_globs { OnErr result (glob_imports.new ≡ glob_imports.old) }
     {
-        if def.is_none() {
-            return self.push_unresolved(lookup.1);
+        match def {
+            PerNs {
+                types: None,
+                values: None,
+                macros: None,
+            } => self.push_unresolved(lookup.1),
+            PerNs {
+                types: Some(item),
+                values: None,
+                macros: None,
+            } => self.push_type(glob_imports, &lookup, item, import),
+            PerNs {
+                types: None,
+                values: Some(item),
+                macros: None,
+            } => self.push_value(glob_imports, &lookup, item, import),
+            PerNs {
+                types: None,
+                values: None,
+                macros: Some(item),
+            } => self.push_macro(glob_imports, &lookup, item, import),
+            several => self.push_several(glob_imports, &lookup, several, import),
         }
-        let candidates = self.candidates(glob_imports, &lookup, def, import);
-        self.bind(glob_imports, &lookup, candidates)?;
+    }
+
+    /// Binds items of several namespaces to a name, and says whether that changed anything.
+    fn push_several(
+        &mut self,
+        glob_imports: &mut PerNsGlobImports,
+        lookup: &(ModuleId, Name),
+        def: PerNs,
+        import: Option<ImportOrExternCrate>,
+    ) -> Result<bool, AllocError>
+        requires something { is_nothing def ≡ false }
+        ensures ok { OnOk result (self.new ≡ pushed_scope glob_imports.old lookup.now def import self.old) }
+        ensures globs { OnOk result (glob_imports.new ≡ pushed_globs self.old lookup.now def import glob_imports.old) }
+        ensures changed { IfOk result (λ changed. changed ≡ push_changes self.old glob_imports.old lookup.now def import) }
+        ensures err { OnErr result (self.new ≡ self.old) }
+        ensures err_globs { OnErr result (glob_imports.new ≡ glob_imports.old) }
+    {
+        let candidates = self.candidates(glob_imports, lookup, def, import);
+        self.bind(glob_imports, lookup, candidates)?;
         Ok(candidates.types.is_some() || candidates.values.is_some() || candidates.macros.is_some())
+    }
+
+    /// Binds a type alone to a name, and says whether that changed anything.
+    fn push_type(
+        &mut self,
+        globs: &mut PerNsGlobImports,
+        at: &(ModuleId, Name),
+        item: TypesItem,
+        import: Option<ImportOrExternCrate>,
+    ) -> Result<bool, AllocError>
+        ensures ok { OnOk result (self.new ≡ pushed_scope globs.old at.now (types_alone item) import self.old) }
+        ensures globs { OnOk result (globs.new ≡ pushed_globs self.old at.now (types_alone item) import globs.old) }
+        ensures changed { IfOk result (λ changed. changed ≡ push_changes self.old globs.old at.now (types_alone item) import) }
+        ensures err { OnErr result (self.new ≡ self.old) }
+        ensures err_globs { OnErr result (globs.new ≡ globs.old) }
+    {
+        let bound = self.type_item(&at.1);
+        let candidate = type_candidate(Some(item), import);
+        let Some(candidate) = taken(&globs.types, at, bound, candidate) else {
+            return Ok(false);
+        };
+        self.bind_type(globs, at, candidate)?;
+        Ok(true)
+    }
+
+    /// Binds a candidate of types alone, or leaves everything as it is.
+    fn bind_type(
+        &mut self,
+        globs: &mut PerNsGlobImports,
+        at: &(ModuleId, Name),
+        candidate: Candidate<ModuleDefId, Visibility, ImportOrExternCrate, ImportOrDef>,
+    ) -> Result<(), AllocError>
+        ensures ok { OnOk result (self.new ≡ written_scope at.now.1 (record { types = Some candidate; values = None; macros = None }) self.old) }
+        ensures globs { OnOk result (globs.new ≡ written_globs at.now (record { types = Some candidate; values = None; macros = None }) globs.old) }
+        ensures err { OnErr result (self.new ≡ self.old) }
+        ensures err_globs { OnErr result (globs.new ≡ globs.old) }
+    {
+        let reserved = reserve(&mut self.type_records, &mut globs.types, at, Some(candidate))?;
+        match self.names.write(&at.1, pushed_item(Some(candidate)), None, None) {
+            Ok(()) => {
+                write(
+                    &mut self.type_records,
+                    &mut globs.types,
+                    at,
+                    Some(candidate),
+                    reserved,
+                );
+                Ok(())
+            }
+            Err(refused) => {
+                roll_back(
+                    &mut self.type_records,
+                    &mut globs.types,
+                    at,
+                    Some(candidate),
+                    reserved,
+                );
+                Err(refused)
+            }
+        }
+    }
+
+    /// Binds a value alone to a name, and says whether that changed anything.
+    fn push_value(
+        &mut self,
+        globs: &mut PerNsGlobImports,
+        at: &(ModuleId, Name),
+        item: ValuesItem,
+        import: Option<ImportOrExternCrate>,
+    ) -> Result<bool, AllocError>
+        ensures ok { OnOk result (self.new ≡ pushed_scope globs.old at.now (values_alone item) import self.old) }
+        ensures globs { OnOk result (globs.new ≡ pushed_globs self.old at.now (values_alone item) import globs.old) }
+        ensures changed { IfOk result (λ changed. changed ≡ push_changes self.old globs.old at.now (values_alone item) import) }
+        ensures err { OnErr result (self.new ≡ self.old) }
+        ensures err_globs { OnErr result (globs.new ≡ globs.old) }
+    {
+        let bound = self.value_item(&at.1);
+        let candidate = value_candidate(Some(item), import);
+        let Some(candidate) = taken(&globs.values, at, bound, candidate) else {
+            return Ok(false);
+        };
+        self.bind_value(globs, at, candidate)?;
+        Ok(true)
+    }
+
+    /// Binds a candidate of values alone, or leaves everything as it is.
+    fn bind_value(
+        &mut self,
+        globs: &mut PerNsGlobImports,
+        at: &(ModuleId, Name),
+        candidate: Candidate<ModuleDefId, Visibility, ImportOrGlob, ImportOrDef>,
+    ) -> Result<(), AllocError>
+        ensures ok { OnOk result (self.new ≡ written_scope at.now.1 (record { types = None; values = Some candidate; macros = None }) self.old) }
+        ensures globs { OnOk result (globs.new ≡ written_globs at.now (record { types = None; values = Some candidate; macros = None }) globs.old) }
+        ensures err { OnErr result (self.new ≡ self.old) }
+        ensures err_globs { OnErr result (globs.new ≡ globs.old) }
+    {
+        let reserved = reserve(&mut self.value_records, &mut globs.values, at, Some(candidate))?;
+        match self.names.write(&at.1, None, pushed_item(Some(candidate)), None) {
+            Ok(()) => {
+                write(
+                    &mut self.value_records,
+                    &mut globs.values,
+                    at,
+                    Some(candidate),
+                    reserved,
+                );
+                Ok(())
+            }
+            Err(refused) => {
+                roll_back(
+                    &mut self.value_records,
+                    &mut globs.values,
+                    at,
+                    Some(candidate),
+                    reserved,
+                );
+                Err(refused)
+            }
+        }
+    }
+
+    /// Binds a macro alone to a name, and says whether that changed anything.
+    fn push_macro(
+        &mut self,
+        globs: &mut PerNsGlobImports,
+        at: &(ModuleId, Name),
+        item: MacrosItem,
+        import: Option<ImportOrExternCrate>,
+    ) -> Result<bool, AllocError>
+        ensures ok { OnOk result (self.new ≡ pushed_scope globs.old at.now (macros_alone item) import self.old) }
+        ensures globs { OnOk result (globs.new ≡ pushed_globs self.old at.now (macros_alone item) import globs.old) }
+        ensures changed { IfOk result (λ changed. changed ≡ push_changes self.old globs.old at.now (macros_alone item) import) }
+        ensures err { OnErr result (self.new ≡ self.old) }
+        ensures err_globs { OnErr result (globs.new ≡ globs.old) }
+    {
+        let bound = self.macro_item(&at.1);
+        let candidate = macro_candidate(Some(item), import);
+        let Some(candidate) = taken(&globs.macros, at, bound, candidate) else {
+            return Ok(false);
+        };
+        self.bind_macro(globs, at, candidate)?;
+        Ok(true)
+    }
+
+    /// Binds a candidate of macros alone, or leaves everything as it is.
+    fn bind_macro(
+        &mut self,
+        globs: &mut PerNsGlobImports,
+        at: &(ModuleId, Name),
+        candidate: Candidate<MacroId, Visibility, ImportOrExternCrate, ImportOrDef>,
+    ) -> Result<(), AllocError>
+        ensures ok { OnOk result (self.new ≡ written_scope at.now.1 (record { types = None; values = None; macros = Some candidate }) self.old) }
+        ensures globs { OnOk result (globs.new ≡ written_globs at.now (record { types = None; values = None; macros = Some candidate }) globs.old) }
+        ensures err { OnErr result (self.new ≡ self.old) }
+        ensures err_globs { OnErr result (globs.new ≡ globs.old) }
+    {
+        let reserved = reserve(&mut self.macro_records, &mut globs.macros, at, Some(candidate))?;
+        match self.names.write(&at.1, None, None, pushed_item(Some(candidate))) {
+            Ok(()) => {
+                write(
+                    &mut self.macro_records,
+                    &mut globs.macros,
+                    at,
+                    Some(candidate),
+                    reserved,
+                );
+                Ok(())
+            }
+            Err(refused) => {
+                roll_back(
+                    &mut self.macro_records,
+                    &mut globs.macros,
+                    at,
+                    Some(candidate),
+                    reserved,
+                );
+                Err(refused)
+            }
+        }
     }
 
     /// Notes a name that was pushed with nothing, and says whether it was new.

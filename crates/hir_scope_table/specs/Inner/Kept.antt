@@ -7,6 +7,8 @@ use Rattle.std.specs.Cmp.Lexicographic.{slice_cmp}
 use Rattle.std.specs.declared.boxed.Box.{Box}
 use Rattle.std.specs.declared.alloc.Global.{Global}
 use Rattle.hir_scope_item.specs.Bindings.{first_of}
+use Rattle.hir_scope_table.specs.declared.entry.Edit.{Edit}
+use Rattle.hir_scope_table.specs.declared.entry.Edit.TheVariants as edits
 use Rattle.hir_scope_table.specs.Entries.{item_at}
 use Rattle.hir_scope_table.specs.Slots.{Slots, NamedSlots, is_vacant}
 
@@ -68,6 +70,15 @@ with_value item slots = record slots { values = option_map (λ _. item) slots.va
 
 abbrev pub with_macro : {T V M : Type 0} → M → Slots T V M → Slots T V M
 with_macro item slots = record slots { macros = option_map (λ _. item) slots.macros }
+
+-- slots, once they are changed
+abbrev pub after_edit : {T V M : Type 0} → Edit T V M → Slots T V M → Slots T V M
+after_edit (edits.Fill filling) slots = over (unboxed filling.types) (unboxed filling.values) (unboxed filling.macros) slots
+after_edit edits.Mark slots = marked slots
+after_edit (edits.Type item) slots = with_type item slots
+after_edit (edits.Value item) slots = with_value item slots
+after_edit (edits.Macro item) slots = with_macro item slots
+after_edit edits.RemoveValue slots = without_value slots
 
 -- an entry in which each item is written anew
 abbrev pub revised_entry : {T V M : Type 0} → (T → T) → (V → V) → (M → M) → List ℕ × Slots T V M → List ℕ × Slots T V M

@@ -36,7 +36,7 @@ impl ItemScope {
         ensures value { result ≡ self.now.types }
     {
         Bindings {
-            left: SlotWalk::Types(self.names.as_slice()),
+            left: SlotWalk::Types(self.names.walk()),
         }
     }
 
@@ -45,7 +45,7 @@ impl ItemScope {
         ensures value { result ≡ self.now.values }
     {
         Bindings {
-            left: SlotWalk::Values(self.names.as_slice()),
+            left: SlotWalk::Values(self.names.walk()),
         }
     }
 
@@ -54,7 +54,7 @@ impl ItemScope {
         ensures value { result ≡ self.now.macros }
     {
         Bindings {
-            left: SlotWalk::Macros(self.names.as_slice()),
+            left: SlotWalk::Macros(self.names.walk()),
         }
     }
 }

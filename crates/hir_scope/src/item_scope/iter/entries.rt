@@ -13,12 +13,13 @@ use crate::per_ns::{Item, MacrosItem, PerNs, TypesItem, ValuesItem};
 use hir_ids::ids::{ModuleDefId, TraitId};
 use hir_ids::name::Name;
 use hir_scope_table::entry::Entry;
+use hir_scope_table::gap_list::GapWalk;
 use std::marker::Model;
 
 /// Names with what they stand for; see `ItemScope::entries`.
 #[derive(Drop)]
 pub struct Entries<'a> {
-    left: &'a [Entry<TypesItem, ValuesItem, MacrosItem>],
+    left: GapWalk<'a, Entry<TypesItem, ValuesItem, MacrosItem>>,
 }
 
 impl<'a> Model for Entries<'a> {
@@ -28,7 +29,7 @@ impl<'a> Model for Entries<'a> {
 
     ghost Value = { List (List ℕ × PerNs) };
 
-    ghost view = { λ walk. bindings_of walk.left.now };
+    ghost view = { λ walk. bindings_of walk.left };
 }
 
 /// Names with what they stand for, and then traits without a name; see `ItemScope::resolutions`.
@@ -55,7 +56,7 @@ impl ItemScope {
     {
         self.names.is_kept();
         Entries {
-            left: self.names.as_slice(),
+            left: self.names.walk(),
         }
     }
 
@@ -89,8 +90,7 @@ impl<'a> Iterator for Entries<'a> {
     ghost remaining = { item_count (λ (left : List _). left) };
 
     fn next(&mut self) -> Option<(&'a Name, PerNs)> {
-        let (entry, others) = self.left.split_first()?;
-        self.left = others;
+        let entry = self.left.advance()?;
         Some((entry.name(), items_of(entry)))
     }
 }

@@ -6,15 +6,15 @@ use Rattle.hir_scope_table.proofs.entry_list.fill.Goals as goal
 
 pub returns-then-place-clause-ok : goal.returns-then-place-clause-ok
 returns-then-place-clause-ok g c =
-    filled_by_place c.args.entries.now.items c.requires.kept c.args.name.now c.place_of-place.result.at c.place_of-place.result.found
+    filled_by_place c.args.entries.now c.requires.kept c.args.name.now c.place_of-place.result.at c.place_of-place.result.found
     c.place_of-place.ensures.belongs
-    c.if-place.true (over (unboxed c.args.filling.types) (unboxed c.args.filling.values) (unboxed c.args.filling.macros)) c.fill_at.new.entries.items
-    c.fill_at.ensures.value
+    c.if-place.true (over (unboxed c.args.filling.types) (unboxed c.args.filling.values) (unboxed c.args.filling.macros)) c.edit_at.new.entries
+    c.edit_at.ensures.value
 
 pub returns-in_ok-entry-clause-ok : goal.returns-in_ok-entry-clause-ok
 returns-in_ok-entry-clause-ok g c =
-    on_ok c.insert_at.result c.insert_at.new.entries.items _ _ c.insert_at.ensures.ok
-    (λ is. entered_by_place c.args.entries.now.items c.requires.kept c.args.name.now c.place_of-place.result.at c.place_of-place.result.found
+    on_ok c.insert.result c.insert.new.self _ _ c.insert.ensures.ok
+    (λ is. entered_by_place c.args.entries.now c.requires.kept c.args.name.now c.place_of-place.result.at c.place_of-place.result.found
     c.place_of-place.ensures.belongs
-    c.if-place.false (over (unboxed c.args.filling.types) (unboxed c.args.filling.values) (unboxed c.args.filling.macros)) c.insert_at.new.entries.items
-    (is ∙ ap (insert c.args.entries.now.items c.place_of-place.result.at) c.in_ok-entry.ensures.ok))
+    c.if-place.false (over (unboxed c.args.filling.types) (unboxed c.args.filling.values) (unboxed c.args.filling.macros)) c.insert.new.self
+    (is ∙ ap (insert c.args.entries.now c.place_of-place.result.at) c.in_ok-entry.ensures.ok))

@@ -6,23 +6,23 @@ use Rattle.hir_scope_table.proofs.entry_list.note.Goals as goal
 
 pub returns-then-place-clause-ok : goal.returns-then-place-clause-ok
 returns-then-place-clause-ok g c =
-    filled_by_place c.args.entries.now.items c.requires.kept c.args.name c.place_of-place.result.at c.place_of-place.result.found
+    filled_by_place c.args.entries.now c.requires.kept c.args.name c.place_of-place.result.at c.place_of-place.result.found
     c.place_of-place.ensures.belongs
-    c.if-place.true marked c.mark_at.new.entries.items c.mark_at.ensures.value
+    c.if-place.true marked c.edit_at.new.entries c.edit_at.ensures.value
 
 pub returns-then-place-clause-changed : goal.returns-then-place-clause-changed
 returns-then-place-clause-changed g c =
-    told_by_place c.args.entries.now.items c.requires.kept c.args.name c.place_of-place.result.at c.place_of-place.result.found c.place_of-place.ensures.belongs
-    (λ s. not s.unresolved) c.mark_at.result c.if-place.true c.mark_at.ensures.changed
+    told_by_place c.args.entries.now c.requires.kept c.args.name c.place_of-place.result.at c.place_of-place.result.found c.place_of-place.ensures.belongs
+    (λ s. not s.unresolved) c.edit_at.result c.if-place.true c.edit_at.ensures.changed
 
-pub returns-in_ok-insert_at-clause-ok : goal.returns-in_ok-insert_at-clause-ok
-returns-in_ok-insert_at-clause-ok g c =
-    entered_by_place c.args.entries.now.items c.requires.kept c.args.name c.place_of-place.result.at c.place_of-place.result.found
+pub returns-in_ok-insert-clause-ok : goal.returns-in_ok-insert-clause-ok
+returns-in_ok-insert-clause-ok g c =
+    entered_by_place c.args.entries.now c.requires.kept c.args.name c.place_of-place.result.at c.place_of-place.result.found
     c.place_of-place.ensures.belongs
-    c.if-place.false marked c.insert_at.new.entries.items
-    (c.in_ok-insert_at.ensures.ok ∙ ap (insert c.args.entries.now.items c.place_of-place.result.at) c.in_ok-entry.ensures.ok)
+    c.if-place.false marked c.insert.new.self
+    (c.in_ok-insert.ensures.ok ∙ ap (insert c.args.entries.now c.place_of-place.result.at) c.in_ok-entry.ensures.ok)
 
-pub returns-in_ok-insert_at-clause-changed : goal.returns-in_ok-insert_at-clause-changed
-returns-in_ok-insert_at-clause-changed g c =
-    sym (ap (λ s. not s.unresolved) (new_by_place c.args.entries.now.items c.requires.kept c.args.name c.place_of-place.result.at c.place_of-place.result.found
+pub returns-in_ok-insert-clause-changed : goal.returns-in_ok-insert-clause-changed
+returns-in_ok-insert-clause-changed g c =
+    sym (ap (λ s. not s.unresolved) (new_by_place c.args.entries.now c.requires.kept c.args.name c.place_of-place.result.at c.place_of-place.result.found
     c.place_of-place.ensures.belongs c.if-place.false))

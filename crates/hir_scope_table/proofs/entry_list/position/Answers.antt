@@ -7,12 +7,12 @@ use Rattle.hir_scope_table.proofs.entry_list.position.Goals as goal
 pub returns-then-found : goal.returns-then-found
 returns-then-found g c = record {
   value =
-      position_at_place (slice_cmp nat_cmp) nat_list_cmp_total c.args.name.now c.args.entries.now.items c.args.at (c.requires.belongs.inside c.if-found.true)
+      position_at_place (slice_cmp nat_cmp) nat_list_cmp_total c.args.name.now c.args.entries.now c.args.at (c.requires.belongs.inside c.if-found.true)
       c.requires.belongs.above (where_found c.args.found c.requires.belongs c.if-found.true);
 }
 
 pub returns-else-found : goal.returns-else-found
 returns-else-found g c = record {
-  value = no_position (slice_cmp nat_cmp) nat_list_cmp_total c.args.name.now c.args.entries.now.items c.args.at c.requires.kept.ascends
+  value = no_position (slice_cmp nat_cmp) nat_list_cmp_total c.args.name.now c.args.entries.now c.args.at c.requires.kept.ascends
       c.requires.belongs.above (where_missing c.args.found c.requires.belongs c.if-found.false);
 }

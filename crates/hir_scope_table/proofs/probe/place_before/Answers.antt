@@ -18,7 +18,7 @@ returns-then-to-eq0-clause-belongs g c =
 pub place_within-requires-clause-below : goal.place_within-requires-clause-below
 place_within-requires-clause-below g c =
     let compare = slice_cmp nat_cmp c.args.name.now in
-    compares_at compare c.args.entries.now (c.args.to - 1) c.index-entries-last.result Less c.index-entries-last.is
+    compares_at compare c.args.entries.now (c.args.to - 1) c.at.result.now Less c.at.ensures.is
     (ap compare (sym c.name.ensures.value) ∙ sym c.in-Less.ensures.value)
 
 pub returns-in-Equal-clause-belongs : goal.returns-in-Equal-clause-belongs
@@ -28,9 +28,9 @@ returns-in-Equal-clause-belongs g c =
     let inside : c.args.to - 1 < length es = omega (arith, c.requires.within) in
     let is = ap compare (sym c.name.ensures.value) ∙ sym c.in-Equal.ensures.value in
     belongs_here compare es (c.args.to - 1) inside
-    (above_at (slice_cmp nat_cmp) nat_list_cmp_total c.args.name.now es (c.args.to - 1) c.index-entries-last.result Equal inside
-    c.requires.kept.ascends c.index-entries-last.is is refl)
-    (compares_at compare es (c.args.to - 1) c.index-entries-last.result Equal c.index-entries-last.is is)
+    (above_at (slice_cmp nat_cmp) nat_list_cmp_total c.args.name.now es (c.args.to - 1) c.at.result.now Equal inside
+    c.requires.kept.ascends c.at.ensures.is is refl)
+    (compares_at compare es (c.args.to - 1) c.at.result.now Equal c.at.ensures.is is)
 
 pub returns-in-Greater-clause-belongs : goal.returns-in-Greater-clause-belongs
 returns-in-Greater-clause-belongs g c =
@@ -38,9 +38,9 @@ returns-in-Greater-clause-belongs g c =
     let compare = slice_cmp nat_cmp c.args.name.now in
     let inside : c.args.to - 1 < length es = omega (arith, c.requires.within) in
     let is = ap compare (sym c.name.ensures.value) ∙ sym c.in-Greater.ensures.value in
-    let here = compares_at compare es (c.args.to - 1) c.index-entries-last.result Greater c.index-entries-last.is is in
-    let before = above_at (slice_cmp nat_cmp) nat_list_cmp_total c.args.name.now es (c.args.to - 1) c.index-entries-last.result Greater inside
-    c.requires.kept.ascends c.index-entries-last.is is refl in
+    let here = compares_at compare es (c.args.to - 1) c.at.result.now Greater c.at.ensures.is is in
+    let before = above_at (slice_cmp nat_cmp) nat_list_cmp_total c.args.name.now es (c.args.to - 1) c.at.result.now Greater inside
+    c.requires.kept.ascends c.at.ensures.is is refl in
     let next : suc (c.args.to - 1) ≡ c.args.to = omega arith in
     belongs_before compare es c.args.to c.requires.within
     (subst (IsAboveFirst compare es) next

@@ -10,7 +10,7 @@ use Rattle.hir_scope_table.proofs.probe.place_near.Goals as goal
 pub place_before-requires-clause-below : goal.place_before-requires-clause-below
 place_before-requires-clause-below g c =
     let compare = slice_cmp nat_cmp c.args.name.now in
-    compares_at compare c.args.entries.now c.args.near c.index-entries-near.result Less c.index-entries-near.is
+    compares_at compare c.args.entries.now c.args.near c.at.result.now Less c.at.ensures.is
     (ap compare (sym c.name.ensures.value) ∙ sym c.in-Less.ensures.value)
 
 pub returns-in-Equal-clause-belongs : goal.returns-in-Equal-clause-belongs
@@ -20,9 +20,9 @@ returns-in-Equal-clause-belongs g c =
     let inside : c.args.near < length es = omega arith in
     let is = ap compare (sym c.name.ensures.value) ∙ sym c.in-Equal.ensures.value in
     belongs_here compare es c.args.near inside
-    (above_at (slice_cmp nat_cmp) nat_list_cmp_total c.args.name.now es c.args.near c.index-entries-near.result Equal inside c.requires.kept.ascends
-    c.index-entries-near.is is refl)
-    (compares_at compare es c.args.near c.index-entries-near.result Equal c.index-entries-near.is is)
+    (above_at (slice_cmp nat_cmp) nat_list_cmp_total c.args.name.now es c.args.near c.at.result.now Equal inside c.requires.kept.ascends
+    c.at.ensures.is is refl)
+    (compares_at compare es c.args.near c.at.result.now Equal c.at.ensures.is is)
 
 pub place_behind-requires-clause-above : goal.place_behind-requires-clause-above
 place_behind-requires-clause-above g c =
@@ -30,9 +30,9 @@ place_behind-requires-clause-above g c =
     let compare = slice_cmp nat_cmp c.args.name.now in
     let inside : c.args.near < length es = omega arith in
     let is = ap compare (sym c.name.ensures.value) ∙ sym c.in-Greater.ensures.value in
-    let here = compares_at compare es c.args.near c.index-entries-near.result Greater c.index-entries-near.is is in
-    let before = above_at (slice_cmp nat_cmp) nat_list_cmp_total c.args.name.now es c.args.near c.index-entries-near.result Greater inside
-    c.requires.kept.ascends c.index-entries-near.is is refl in
+    let here = compares_at compare es c.args.near c.at.result.now Greater c.at.ensures.is is in
+    let before = above_at (slice_cmp nat_cmp) nat_list_cmp_total c.args.name.now es c.args.near c.at.result.now Greater inside
+    c.requires.kept.ascends c.at.ensures.is is refl in
     let next : suc c.args.near ≡ c.args.near + 1 = omega arith in
     subst (IsAboveFirst compare es) next
     (above_one_more (slice_cmp nat_cmp) nat_list_cmp_total c.args.name.now es c.args.near inside before here)

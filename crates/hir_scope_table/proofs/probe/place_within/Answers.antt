@@ -36,7 +36,7 @@ halves-preserved-in-Less g c =
     let compare = slice_cmp nat_cmp c.args.name.now in
     let middle = c.halves.at + c.halves.left / 2 in
     let n = c.args.to - c.args.from in
-    let here = compares_at compare es middle c.index-entries-middle.result Less c.index-entries-middle.is
+    let here = compares_at compare es middle c.at.result.now Less c.at.ensures.is
     (ap compare (sym c.name.ensures.value) ∙ sym c.in-Less.ensures.value) in
     let one : suc (c.halves.probe - c.args.probe) ≡ c.compare.new.self - c.args.probe = omega (arith, c.compare.ensures.counted, c.halves.invariant.3) in (
       omega (arith, c.halves.invariant.0),
@@ -56,9 +56,9 @@ returns-in-Equal-clause-belongs g c =
     let is = ap compare (sym c.name.ensures.value) ∙ sym c.in-Equal.ensures.value in
     record {
       above =
-          above_at (slice_cmp nat_cmp) nat_list_cmp_total c.args.name.now es middle c.index-entries-middle.result Equal inside c.requires.kept.ascends
-          c.index-entries-middle.is is refl;
-      there = compares_at compare es middle c.index-entries-middle.result Equal c.index-entries-middle.is is;
+          above_at (slice_cmp nat_cmp) nat_list_cmp_total c.args.name.now es middle c.at.result.now Equal inside c.requires.kept.ascends
+          c.at.ensures.is is refl;
+      there = compares_at compare es middle c.at.result.now Equal c.at.ensures.is is;
       within = omega (arith, inside);
       inside = λ _. inside;
     }
@@ -79,9 +79,9 @@ halves-preserved g c =
     let some : 0 < c.halves.left = omega (arith, c.halves-test.true) in
     let inside : middle < length es = omega (arith, c.halves.invariant.0, some, c.requires.within) in
     let is = ap compare (sym c.name.ensures.value) ∙ sym c.in-Greater.ensures.value in
-    let here = compares_at compare es middle c.index-entries-middle.result Greater c.index-entries-middle.is is in
-    let above = above_at (slice_cmp nat_cmp) nat_list_cmp_total c.args.name.now es middle c.index-entries-middle.result Greater inside c.requires.kept.ascends
-    c.index-entries-middle.is is refl in
+    let here = compares_at compare es middle c.at.result.now Greater c.at.ensures.is is in
+    let above = above_at (slice_cmp nat_cmp) nat_list_cmp_total c.args.name.now es middle c.at.result.now Greater inside c.requires.kept.ascends
+    c.at.ensures.is is refl in
     let next : suc middle ≡ middle + 1 = omega arith in
     let end : c.halves.at + c.halves.left ≡ middle + 1 + less = omega (arith, some) in
     let one : suc (c.halves.probe - c.args.probe) ≡ c.compare.new.self - c.args.probe = omega (arith, c.compare.ensures.counted, c.halves.invariant.3) in (

@@ -3,7 +3,7 @@ use Rattle.hir_scope.specs.Slots.{unresolved_in}
 use Rattle.hir_scope.proofs.item_scope.eq.next_unresolved.Given as goal
 
 abbrev pub invariant-next : goal.invariant-next
-invariant-next l = unresolved_in l.left.now ≡ unresolved_in l.initial.left.now
+invariant-next l = unresolved_in l.left ≡ unresolved_in l.initial.left
 
 abbrev pub decreases-next : goal.decreases-next
-decreases-next l = length l.left.now
+decreases-next l = length l.left

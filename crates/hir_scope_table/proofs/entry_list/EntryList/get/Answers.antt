@@ -16,18 +16,18 @@ slot_read slot (Some e) slots is = ap (slot_of slot) is
 
 pub returns-clause-types : goal.returns-clause-types
 returns-clause-types g c =
-    rw (← c.self.view_is) (slot_read (λ s. s.types) c.entry_of.result (item_at c.self.inside.entries.items c.args.name.now) c.entry_of.ensures.value
-    ∙ sym (lookup-in_slot (slice_cmp nat_cmp) nat_list_cmp_total exact_bytes (λ s. s.types) c.self.inside.entries.items c.args.name.now
+    rw (← c.self.view_is) (slot_read (λ s. s.types) c.entry_of.result (item_at c.self.inside.entries c.args.name.now) c.entry_of.ensures.value
+    ∙ sym (lookup-in_slot (slice_cmp nat_cmp) nat_list_cmp_total exact_bytes (λ s. s.types) c.self.inside.entries c.args.name.now
     c.self.invariant.ascends))
 
 pub returns-clause-values : goal.returns-clause-values
 returns-clause-values g c =
-    rw (← c.self.view_is) (slot_read (λ s. s.values) c.entry_of.result (item_at c.self.inside.entries.items c.args.name.now) c.entry_of.ensures.value
-    ∙ sym (lookup-in_slot (slice_cmp nat_cmp) nat_list_cmp_total exact_bytes (λ s. s.values) c.self.inside.entries.items c.args.name.now
+    rw (← c.self.view_is) (slot_read (λ s. s.values) c.entry_of.result (item_at c.self.inside.entries c.args.name.now) c.entry_of.ensures.value
+    ∙ sym (lookup-in_slot (slice_cmp nat_cmp) nat_list_cmp_total exact_bytes (λ s. s.values) c.self.inside.entries c.args.name.now
     c.self.invariant.ascends))
 
 pub returns-clause-macros : goal.returns-clause-macros
 returns-clause-macros g c =
-    rw (← c.self.view_is) (slot_read (λ s. s.macros) c.entry_of.result (item_at c.self.inside.entries.items c.args.name.now) c.entry_of.ensures.value
-    ∙ sym (lookup-in_slot (slice_cmp nat_cmp) nat_list_cmp_total exact_bytes (λ s. s.macros) c.self.inside.entries.items c.args.name.now
+    rw (← c.self.view_is) (slot_read (λ s. s.macros) c.entry_of.result (item_at c.self.inside.entries c.args.name.now) c.entry_of.ensures.value
+    ∙ sym (lookup-in_slot (slice_cmp nat_cmp) nat_list_cmp_total exact_bytes (λ s. s.macros) c.self.inside.entries c.args.name.now
     c.self.invariant.ascends))

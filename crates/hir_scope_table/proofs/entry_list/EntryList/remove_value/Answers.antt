@@ -6,11 +6,11 @@ use Rattle.hir_scope_table.proofs.entry_list.EntryList.remove_value.Goals as goa
 
 pub invariant_of-self : goal.invariant_of-self
 invariant_of-self g c =
-    subst (λ es. IsKept es) (sym c.remove_value_of.ensures.value) (kept-removal c.self.inside.entries.items c.self.invariant c.args.name.now)
+    subst (λ es. IsKept es) (sym c.remove_value_of.ensures.value) (kept-removal c.self.inside.entries c.self.invariant c.args.name.now)
 
 pub returns : goal.returns
 returns g c =
-    let es = c.self.inside.entries.items in
+    let es = c.self.inside.entries in
     let kept = c.self.invariant in
     let k = c.args.name.now in
     let is = c.remove_value_of.ensures.value in

@@ -8,12 +8,12 @@ use Rattle.hir_scope_table.proofs.entry_list.EntryList.revise.Goals as goal
 pub invariant_of-self : goal.invariant_of-self
 invariant_of-self g c =
     subst (λ es. IsKept es) (sym c.revise_entries.ensures.value)
-    (kept-revised (g.R.Revise.type_of c.args.by.now) (g.R.Revise.value_of c.args.by.now) (g.R.Revise.macro_of c.args.by.now) c.self.inside.entries.items
+    (kept-revised (g.R.Revise.type_of c.args.by.now) (g.R.Revise.value_of c.args.by.now) (g.R.Revise.macro_of c.args.by.now) c.self.inside.entries
     c.self.invariant)
 
 pub returns : goal.returns
 returns g c =
-    let es = c.self.inside.entries.items in
+    let es = c.self.inside.entries in
     let types = g.R.Revise.type_of c.args.by.now in
     let values = g.R.Revise.value_of c.args.by.now in
     let macros = g.R.Revise.macro_of c.args.by.now in

@@ -8,11 +8,11 @@ use Rattle.hir_scope_table.proofs.entry_list.EntryList.set_value.Goals as goal
 pub invariant_of-self : goal.invariant_of-self
 invariant_of-self g c =
     subst (λ es. IsKept es) (sym c.set_value_of.ensures.value)
-    (kept-edited c.self.inside.entries.items c.self.invariant c.args.name.now (with_value c.args.item) (valued_says c.args.item))
+    (kept-edited c.self.inside.entries c.self.invariant c.args.name.now (with_value c.args.item) (valued_says c.args.item))
 
 pub returns : goal.returns
 returns g c =
-    let es = c.self.inside.entries.items in
+    let es = c.self.inside.entries in
     let kept = c.self.invariant in
     let k = c.args.name.now in
     let is = c.set_value_of.ensures.value in

@@ -8,7 +8,7 @@ use Rattle.hir_scope_table.proofs.entry_list.EntryList.write.Goals as goal
 
 pub invariant_of-self-2 : goal.invariant_of-self-2
 invariant_of-self-2 g c =
-    let es = c.self.inside.entries.items in
+    let es = c.self.inside.entries in
     let s = slots_at es c.args.name.now in
     let filling = c.in_ok-filling.filling in
     let given : (is_some c.args.types || (is_some c.args.values || is_some c.args.macros)) ≡ true = sym c.is_something.ensures.value ∙
@@ -21,7 +21,7 @@ invariant_of-self-2 g c =
 
 pub returns-clause-types : goal.returns-clause-types
 returns-clause-types g c =
-    let es = c.self.inside.entries.items in
+    let es = c.self.inside.entries in
     let k = c.args.name.now in
     let filling = c.in_ok-filling.filling in
     rw (← c.self.view_is) (ap types_in c.in_ok-fill.ensures.ok ∙ given_in es c.self.invariant k (λ s. s.types) refl
@@ -30,7 +30,7 @@ returns-clause-types g c =
 
 pub returns-clause-values : goal.returns-clause-values
 returns-clause-values g c =
-    let es = c.self.inside.entries.items in
+    let es = c.self.inside.entries in
     let k = c.args.name.now in
     let filling = c.in_ok-filling.filling in
     rw (← c.self.view_is) (ap values_in c.in_ok-fill.ensures.ok ∙ given_in es c.self.invariant k (λ s. s.values) refl
@@ -39,7 +39,7 @@ returns-clause-values g c =
 
 pub returns-clause-macros : goal.returns-clause-macros
 returns-clause-macros g c =
-    let es = c.self.inside.entries.items in
+    let es = c.self.inside.entries in
     let k = c.args.name.now in
     let filling = c.in_ok-filling.filling in
     rw (← c.self.view_is) (ap macros_in c.in_ok-fill.ensures.ok ∙ given_in es c.self.invariant k (λ s. s.macros) refl
@@ -48,7 +48,7 @@ returns-clause-macros g c =
 
 pub returns-clause-unresolved : goal.returns-clause-unresolved
 returns-clause-unresolved g c =
-    let es = c.self.inside.entries.items in
+    let es = c.self.inside.entries in
     let k = c.args.name.now in
     let filling = c.in_ok-filling.filling in
     rw (← c.self.view_is) (ap unresolved_in c.in_ok-fill.ensures.ok ∙ unresolved_stays es c.self.invariant k
