@@ -10,7 +10,7 @@ ghost use Rattle.std.specs.Cmp.Lexicographic.{slice_cmp};
 ghost use Rattle.hir_scope_table.specs.Entries.{any_value, item_at, with_some_entry};
 ghost use Rattle.hir_scope_table.specs.Probe.{binary_digits, position_of};
 ghost use Rattle.hir_scope_table.specs.Slots.{Slots, NamedSlots, is_vacant, named, slot_found, entry_found, types_in, values_in, macros_in, unresolved_in};
-ghost use Rattle.hir_scope_table.specs.Inner.Kept.{unboxed, over, marked, no_slots, after_edit, revised_entry, slots_at, with_type, with_value, with_macro, edited, without_value, without_value_of};
+ghost use Rattle.hir_scope_table.specs.Inner.Kept.{unboxed, over, marked, no_slots, slots_at, with_type, with_value, with_macro, edited, without_value, without_value_of};
 ghost use Rattle.hir_scope_table.specs.Inner.Place.{BelongsAt, IsKept};
 
 use crate::entry::{Edit, Entry, Filling, Revise};
@@ -135,38 +135,6 @@ fn is_something<T: Copy, V: Copy, M: Copy>(
     types.is_some() || (values.is_some() || macros.is_some())
 }
 
-fn edit_within<T: Copy, V: Copy, M: Copy>(
-    entries: &mut Vec<Entry<T, V, M>>,
-    at: usize,
-    edit: Edit<T, V, M>,
-)
-    requires there { at < length entries.old.items }
-    ensures value { (e : List ℕ × Slots T V M) → slice_get entries.old.items at ≡ Some e
-        → entries.new.items ≡ slice_set entries.old.items at (e.0, after_edit edit e.1) }
-{
-    let entry = &mut entries[at];
-    entry.edit(edit);
-}
-
-/// Changes the slots of an entry.
-fn edit_at<T: Copy, V: Copy, M: Copy>(
-    entries: &mut GapList<Entry<T, V, M>>,
-    at: usize,
-    edit: Edit<T, V, M>,
-)
-    requires there { at < length entries.old }
-    ensures value { (e : List ℕ × Slots T V M) → slice_get entries.old at ≡ Some e
-        → entries.new ≡ slice_set entries.old at (e.0, after_edit edit e.1) }
-{
-    let before = entries.front.len();
-    if at < before {
-        edit_within(&mut entries.front, at, edit);
-    } else {
-        let place = entries.back.len() - 1 - (at - before);
-        edit_within(&mut entries.back, place, edit);
-    }
-}
-
 fn filled_entry<T: Copy, V: Copy, M: Copy>(
     alloc: Global,
     name: &Name,
@@ -203,7 +171,7 @@ fn fill<T: Copy, V: Copy, M: Copy>(
 {
     let place = place_of(entries, name, near);
     if place.found {
-        edit_at(entries, place.at, Edit::Fill(filling));
+        entries.edit(place.at, Edit::Fill(filling));
         Ok(())
     } else {
         let entry = filled_entry(alloc, name, filling)?;
@@ -227,7 +195,7 @@ fn note<T: Copy, V: Copy, M: Copy>(
     let place = place_of(entries, &name, near);
     if place.found {
         let was = entries.at(place.at).is_unresolved();
-        edit_at(entries, place.at, Edit::Mark);
+        entries.edit(place.at, Edit::Mark);
         Ok(!was)
     } else {
         let entry = marked_entry(alloc, name)?;
@@ -247,7 +215,7 @@ fn set_type_of<T: Copy, V: Copy, M: Copy>(
 {
     let place = place_of(entries, name, near);
     if place.found {
-        edit_at(entries, place.at, Edit::Type(item));
+        entries.edit(place.at, Edit::Type(item));
     }
 }
 
@@ -262,7 +230,7 @@ fn set_value_of<T: Copy, V: Copy, M: Copy>(
 {
     let place = place_of(entries, name, near);
     if place.found {
-        edit_at(entries, place.at, Edit::Value(item));
+        entries.edit(place.at, Edit::Value(item));
     }
 }
 
@@ -277,7 +245,7 @@ fn set_macro_of<T: Copy, V: Copy, M: Copy>(
 {
     let place = place_of(entries, name, near);
     if place.found {
-        edit_at(entries, place.at, Edit::Macro(item));
+        entries.edit(place.at, Edit::Macro(item));
     }
 }
 
@@ -379,45 +347,8 @@ impl<T: Copy, V: Copy, M: Copy> EntryList<T, V, M> {
         ensures macros { macros_in self.new ≡ map (λ e. (e.0, R.macro_of by.now e.1)) (macros_in self.old) }
         ensures unresolved { unresolved_in self.new ≡ unresolved_in self.old }
     {
-        revise_entries(&mut self.entries, by);
+        self.entries.revise(by);
     }
-}
-
-/// Writes an entry anew.
-fn revise_at<T: Copy, V: Copy, M: Copy, R: Revise<T, V, M>>(
-    entries: &mut Vec<Entry<T, V, M>>,
-    at: usize,
-    by: &R,
-)
-    requires there { at < length entries.old.items }
-    ensures value { (e : List ℕ × Slots T V M) → slice_get entries.old.items at ≡ Some e
-        → entries.new.items ≡ slice_set entries.old.items at (revised_entry (R.type_of by.now) (R.value_of by.now) (R.macro_of by.now) e) }
-{
-    let entry = &mut entries[at];
-    entry.revise(by);
-}
-
-/// Writes each entry anew.
-fn revise_each<T: Copy, V: Copy, M: Copy, R: Revise<T, V, M>>(
-    entries: &mut Vec<Entry<T, V, M>>,
-    by: &R,
-)
-    ensures value { entries.new.items ≡ map (revised_entry (R.type_of by.now) (R.value_of by.now) (R.macro_of by.now)) entries.old.items }
-{
-    for i in 0..entries.len() {
-        revise_at(entries, i, by);
-    }
-}
-
-/// The same, of those of a list.
-fn revise_entries<T: Copy, V: Copy, M: Copy, R: Revise<T, V, M>>(
-    entries: &mut GapList<Entry<T, V, M>>,
-    by: &R,
-)
-    ensures value { entries.new ≡ map (revised_entry (R.type_of by.now) (R.value_of by.now) (R.macro_of by.now)) entries.old }
-{
-    revise_each(&mut entries.front, by);
-    revise_each(&mut entries.back, by);
 }
 
 /// Takes out the value of an entry, and the entry if it says nothing of its name then.
@@ -428,7 +359,7 @@ fn clear_value<T: Copy, V: Copy, M: Copy>(entries: &mut GapList<Entry<T, V, M>>,
     ensures goes { (e : List ℕ × Slots T V M) → slice_get entries.old at ≡ Some e → is_vacant (without_value e.1) ≡ true
         → entries.new ≡ remove entries.old at }
 {
-    edit_at(entries, at, Edit::RemoveValue);
+    entries.edit(at, Edit::RemoveValue);
     if entries.at(at).is_vacant() {
         entries.remove(at);
     }

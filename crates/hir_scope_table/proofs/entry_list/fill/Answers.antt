@@ -8,8 +8,8 @@ pub returns-then-place-clause-ok : goal.returns-then-place-clause-ok
 returns-then-place-clause-ok g c =
     filled_by_place c.args.entries.now c.requires.kept c.args.name.now c.place_of-place.result.at c.place_of-place.result.found
     c.place_of-place.ensures.belongs
-    c.if-place.true (over (unboxed c.args.filling.types) (unboxed c.args.filling.values) (unboxed c.args.filling.macros)) c.edit_at.new.entries
-    c.edit_at.ensures.value
+    c.if-place.true (over (unboxed c.args.filling.types) (unboxed c.args.filling.values) (unboxed c.args.filling.macros)) c.edit.new.self
+    c.edit.ensures.value
 
 pub returns-in_ok-entry-clause-ok : goal.returns-in_ok-entry-clause-ok
 returns-in_ok-entry-clause-ok g c =

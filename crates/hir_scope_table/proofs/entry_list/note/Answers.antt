@@ -8,12 +8,12 @@ pub returns-then-place-clause-ok : goal.returns-then-place-clause-ok
 returns-then-place-clause-ok g c =
     filled_by_place c.args.entries.now c.requires.kept c.args.name c.place_of-place.result.at c.place_of-place.result.found
     c.place_of-place.ensures.belongs
-    c.if-place.true marked c.edit_at.new.entries c.edit_at.ensures.value
+    c.if-place.true marked c.edit.new.self c.edit.ensures.value
 
 pub returns-then-place-clause-changed : goal.returns-then-place-clause-changed
 returns-then-place-clause-changed g c =
     told_by_place c.args.entries.now c.requires.kept c.args.name c.place_of-place.result.at c.place_of-place.result.found c.place_of-place.ensures.belongs
-    (λ s. not s.unresolved) c.edit_at.result c.if-place.true c.edit_at.ensures.changed
+    (λ s. not s.unresolved) c.edit.result c.if-place.true c.edit.ensures.changed
 
 pub returns-in_ok-insert-clause-ok : goal.returns-in_ok-insert-clause-ok
 returns-in_ok-insert-clause-ok g c =

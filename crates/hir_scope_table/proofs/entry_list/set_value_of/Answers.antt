@@ -7,7 +7,7 @@ returns-then-place g c = record {
   value =
       set_by_place c.args.entries.now c.requires.kept c.args.name.now c.place_of-place.result.at c.place_of-place.result.found
       c.place_of-place.ensures.belongs
-      c.if-place.true (with_value c.args.item) c.edit_at.new.entries c.edit_at.ensures.value;
+      c.if-place.true (with_value c.args.item) c.edit.new.self c.edit.ensures.value;
 }
 
 pub returns-else-place : goal.returns-else-place

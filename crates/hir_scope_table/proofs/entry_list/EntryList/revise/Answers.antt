@@ -7,7 +7,7 @@ use Rattle.hir_scope_table.proofs.entry_list.EntryList.revise.Goals as goal
 
 pub invariant_of-self : goal.invariant_of-self
 invariant_of-self g c =
-    subst (λ es. IsKept es) (sym c.revise_entries.ensures.value)
+    subst (λ es. IsKept es) (sym c.revise.ensures.value)
     (kept-revised (g.R.Revise.type_of c.args.by.now) (g.R.Revise.value_of c.args.by.now) (g.R.Revise.macro_of c.args.by.now) c.self.inside.entries
     c.self.invariant)
 
@@ -17,7 +17,7 @@ returns g c =
     let types = g.R.Revise.type_of c.args.by.now in
     let values = g.R.Revise.value_of c.args.by.now in
     let macros = g.R.Revise.macro_of c.args.by.now in
-    let is = c.revise_entries.ensures.value in
+    let is = c.revise.ensures.value in
     rw (← c.self.view_is) (record {
       types = ap types_in is ∙ in_slot-mapped (λ s. s.types) (revised types values macros) types (λ s. refl) es;
       values = ap values_in is ∙ in_slot-mapped (λ s. s.values) (revised types values macros) values (λ s. refl) es;
