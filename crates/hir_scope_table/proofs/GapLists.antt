@@ -1,8 +1,8 @@
 -- Lists that are kept in two halves, of which the second has its last element first.
 use Rattle.std.proofs.Common.{◌≡◌, ◌∙◌, ap, sym, subst, refl, Option, Some, ℕ, zero, suc, ◌+◌, ◌-◌, ◌<◌, ◌≤◌, List, [], ◌∷◌, ◌++◌, length, reverse}
-use Rattle.std.proofs.Common.{take, drop, get_or, arith}
+use Rattle.std.proofs.Common.{take, drop, get_or, map, arith}
 use Rattle.std.specs.List.{insert, remove, slice_get, slice_set}
-use Rattle.std.proofs.lemmas.List.{append_assoc, reverse-append, length-append, length-reverse, length-take, length-drop, take-append-drop}
+use Rattle.std.proofs.lemmas.List.{append_assoc, reverse-append, map-append, length-append, length-reverse, length-take, length-drop, take-append-drop}
 
 module _ {X : Type 0} where
   -- halves of one list have as many elements, wherever it is parted
@@ -30,7 +30,7 @@ module _ {X : Type 0} where
       let next : suc (length xs + k) ≡ length (y ∷ xs) + k = omega arith in
       ap (λ zs. y ∷ zs) (insert_behind xs ys k x) ∙ ap (λ i. insert (y ∷ (xs ++ ys)) i x) next
 
-  turned_push : (xs : List X) (x : X) → reverse (xs ++ x ∷ []) ≡ x ∷ reverse xs
+  pub turned_push : (xs : List X) (x : X) → reverse (xs ++ x ∷ []) ≡ x ∷ reverse xs
   turned_push xs x = reverse-append xs (x ∷ [])
 
   -- an element that is put into a list is put into what the list is from its end
@@ -182,3 +182,15 @@ module _ {X : Type 0} where
       ap (λ zs. xs ++ zs) (turned_set ys (length ys - 1 - (i - length xs)) x (omega (arith, from, within)) ∙ ap (λ n. slice_set (reverse ys) n x) j)
       ∙ set_past xs (reverse ys) (i - length xs) x
       ∙ ap (λ n. slice_set (xs ++ reverse ys) n x) at
+
+-- ---- each element is written anew
+
+module _ {X : Type 0} (f : X → X) where
+  mapped_turned : (xs : List X) → reverse (map f xs) ≡ map f (reverse xs)
+  mapped_turned [] = refl
+  mapped_turned (x ∷ xs) =
+      reverse-append (f x ∷ []) (map f xs) ∙ ap (λ zs. zs ++ f x ∷ []) (mapped_turned xs)
+      ∙ sym (map-append f (reverse xs) (x ∷ [])) ∙ ap (map f) (sym (reverse-append (x ∷ []) xs))
+
+  pub mapped_halves : (xs ys : List X) → map f xs ++ reverse (map f ys) ≡ map f (xs ++ reverse ys)
+  mapped_halves xs ys = ap (λ zs. map f xs ++ zs) (mapped_turned ys) ∙ sym (map-append f xs (reverse ys))

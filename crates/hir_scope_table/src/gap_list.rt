@@ -45,6 +45,7 @@ impl<'a, E> Model for GapWalk<'a, E> {
 
 impl<'a, E> GapWalk<'a, E> {
     /// The next element.
+    #[tactic(auto, using(crate::proofs::GapLists::turned_push))]
     pub fn advance(&mut self) -> Option<&'a E>
         ensures first { YieldsFirstRef (λ (left : List E). left) self.old result self.new }
     {

@@ -13,7 +13,7 @@
 
 pub use hir_scope_item::item;
 
-mod edits;
+mod entry_edits;
 pub mod entry;
 pub mod entry_list;
 pub mod gap_list;

@@ -1,7 +1,7 @@
 use Rattle.std.proofs.Common.{◌≡◌, ◌∙◌, ap, ◌<◌, length, arith}
 use Rattle.hir_scope_table.specs.Inner.Kept.{revised_entry}
 use Rattle.hir_scope_table.proofs.Revisions.{length-mapped, mapped-all, mapped-step, mapped_upto}
-use Rattle.hir_scope_table.proofs.edits.revise_each.Goals as goal
+use Rattle.hir_scope_table.proofs.entry_edits.revise_each.Goals as goal
 
 pub revise_at-requires : goal.revise_at-requires
 revise_at-requires g c =

@@ -1,7 +1,7 @@
 use Rattle.std.proofs.Common.{◌≡◌}
 use Rattle.hir_scope_table.specs.Inner.Kept.{revised_entry}
 use Rattle.hir_scope_table.proofs.Revisions.{mapped_upto}
-use Rattle.hir_scope_table.proofs.edits.revise_each.Given as goal
+use Rattle.hir_scope_table.proofs.entry_edits.revise_each.Given as goal
 
 abbrev pub invariant-loop-i : goal.invariant-loop-i
 invariant-loop-i g l =
