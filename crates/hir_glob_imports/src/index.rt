@@ -12,11 +12,7 @@ pub(crate) struct EdgesByModule {
 }
 
 /// Lists without edges are put behind the others, until there is one at a place.
-fn lengthen(
-    alloc: Global,
-    lists: &mut Vec<Vec<usize>>,
-    at: usize,
-) -> Result<(), AllocError>
+fn lengthen(alloc: Global, lists: &mut Vec<Vec<usize>>, at: usize) -> Result<(), AllocError>
     ensures same { (of : ℕ) → edges_among lists.new.items of ≡ edges_among lists.old.items of }
     ensures long { OnOk result (at < length lists.new.items) }
 {

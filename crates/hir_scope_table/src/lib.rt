@@ -13,8 +13,8 @@
 
 pub use hir_scope_item::item;
 
-mod entry_edits;
 pub mod entry;
+mod entry_edits;
 pub mod entry_list;
 pub mod gap_list;
 pub mod gap_map;

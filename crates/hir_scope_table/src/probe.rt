@@ -157,7 +157,12 @@ fn place_behind<T, V, M>(
 }
 
 /// Where a name belongs that is below the entry at a place; it is compared with the one before that first.
-fn place_before<T, V, M>(entries: &GapList<Entry<T, V, M>>, name: &Name, to: usize, probe: Probe) -> Place
+fn place_before<T, V, M>(
+    entries: &GapList<Entry<T, V, M>>,
+    name: &Name,
+    to: usize,
+    probe: Probe,
+) -> Place
     requires kept { IsKept entries.now }
     requires within { to ≤ length entries.now }
     requires below { ComparesAt (slice_cmp nat_cmp name.now) entries.now to Less }

@@ -247,8 +247,16 @@ impl ItemScope {
         ensures err { OnErr result (self.new ≡ self.old) }
         ensures err_globs { OnErr result (globs.new ≡ globs.old) }
     {
-        let reserved = reserve(&mut self.type_records, &mut globs.types, at, Some(candidate))?;
-        match self.names.write(&at.1, pushed_item(Some(candidate)), None, None) {
+        let reserved = reserve(
+            &mut self.type_records,
+            &mut globs.types,
+            at,
+            Some(candidate),
+        )?;
+        match self
+            .names
+            .write(&at.1, pushed_item(Some(candidate)), None, None)
+        {
             Ok(()) => {
                 write(
                     &mut self.type_records,
@@ -307,8 +315,16 @@ impl ItemScope {
         ensures err { OnErr result (self.new ≡ self.old) }
         ensures err_globs { OnErr result (globs.new ≡ globs.old) }
     {
-        let reserved = reserve(&mut self.value_records, &mut globs.values, at, Some(candidate))?;
-        match self.names.write(&at.1, None, pushed_item(Some(candidate)), None) {
+        let reserved = reserve(
+            &mut self.value_records,
+            &mut globs.values,
+            at,
+            Some(candidate),
+        )?;
+        match self
+            .names
+            .write(&at.1, None, pushed_item(Some(candidate)), None)
+        {
             Ok(()) => {
                 write(
                     &mut self.value_records,
@@ -367,8 +383,16 @@ impl ItemScope {
         ensures err { OnErr result (self.new ≡ self.old) }
         ensures err_globs { OnErr result (globs.new ≡ globs.old) }
     {
-        let reserved = reserve(&mut self.macro_records, &mut globs.macros, at, Some(candidate))?;
-        match self.names.write(&at.1, None, None, pushed_item(Some(candidate))) {
+        let reserved = reserve(
+            &mut self.macro_records,
+            &mut globs.macros,
+            at,
+            Some(candidate),
+        )?;
+        match self
+            .names
+            .write(&at.1, None, None, pushed_item(Some(candidate)))
+        {
             Ok(()) => {
                 write(
                     &mut self.macro_records,
