@@ -1,31 +1,29 @@
 -- Edges that are listed stay so.
-use Rattle.std.proofs.Common.{◌≡◌, ◌∙◌, ap, sym, subst, refl, ℕ, Bool, true, false, List, Some, cond}
+use Rattle.std.proofs.Common.{◌≡◌, ◌<◌, refl, ℕ, zero, suc, List, [], ◌∷◌, ◌++◌, length, arith}
 use Rattle.std.specs.Prelude.{Contains}
-use Rattle.std.specs.Ordering.{nat_cmp}
-use Rattle.std.specs.BTreeMap.{get, is_at}
+use Rattle.std.specs.List.{slice_set}
 use Rattle.std.specs.declared.vec.Vec.{Vec}
 use Rattle.std.specs.declared.alloc.Global.{Global}
-use Rattle.std.proofs.lemmas.Cmp.{nat_cmp_total, tied_itself}
-use Rattle.std.specs.Ordering.{is_eq}
-use Rattle.hir_glob_imports.specs.Types.{EdgesByModule}
-use Rattle.hir_glob_imports.specs.Inner.{edges_at, items_or_none}
-use Rattle.hir_glob_imports.proofs.Exact.{exact_nat}
+use Rattle.hir_glob_imports.specs.Inner.{edges_among}
 
-module _ (old new : EdgesByModule) (at : ℕ) (list : Vec ℕ Global)
-    (updates : (q : ℕ) → get nat_cmp new.lists q ≡ cond (is_at (nat_cmp at) q) (Some list) (get nat_cmp old.lists q)) where
-  on : (q : ℕ) (b : Bool) → is_at (nat_cmp at) q ≡ b → edges_at new q ≡ cond b list.items (edges_at old q)
-  on q true e = ap items_or_none (updates q ∙ ap (λ (b : Bool). cond b (Some list) (get nat_cmp old.lists q)) e)
-  on q false e = ap items_or_none (updates q ∙ ap (λ (b : Bool). cond b (Some list) (get nat_cmp old.lists q)) e)
+-- a list without edges adds none
+pub edges_more : (xs : List (Vec ℕ Global)) (v : Vec ℕ Global) → v.items ≡ [] → (of : ℕ) → edges_among (xs ++ v ∷ []) of ≡ edges_among xs of
+edges_more [] v none zero = none
+edges_more [] v none (suc of) = refl
+edges_more (x ∷ xs) v none zero = refl
+edges_more (x ∷ xs) v none (suc of) = edges_more xs v none of
 
-  pub listed_here : (x : ℕ) → Contains list.items x → Contains (edges_at new at) x
-  listed_here x h = subst (λ (xs : List ℕ). Contains xs x) (sym (on at true (ap is_eq (tied_itself nat_cmp_total at)))) h
+-- the edges of a module whose list is written
+pub edges_here : (xs : List (Vec ℕ Global)) (at : ℕ) (v : Vec ℕ Global) → at < length xs → edges_among (slice_set xs at v) at ≡ v.items
+edges_here [] at v within = absurd (omega (arith, within))
+edges_here (x ∷ xs) zero v within = refl
+edges_here (x ∷ xs) (suc at) v within = edges_here xs at v (omega (arith, within))
 
-  pub listed_still : ((x : ℕ) → Contains (edges_at old at) x → Contains list.items x)
-      → (q x : ℕ) → Contains (edges_at old q) x → Contains (edges_at new q) x
-  listed_still has q x h = go (is_at (nat_cmp at) q) refl
-    where
-      go : (b : Bool) → is_at (nat_cmp at) q ≡ b → Contains (edges_at new q) x
-      go true e =
-          let here : at ≡ q = exact_nat at q e in
-          subst (λ (xs : List ℕ). Contains xs x) (sym (on q true e)) (has x (subst (λ (m : ℕ). Contains (edges_at old m) x) (sym here) h))
-      go false e = subst (λ (xs : List ℕ). Contains xs x) (sym (on q false e)) h
+-- where the new list has what the old one had, each edge stays
+pub edges_still : (xs : List (Vec ℕ Global)) (at : ℕ) (v : Vec ℕ Global) → ((x : ℕ) → Contains (edges_among xs at) x → Contains v.items x)
+    → (of x : ℕ) → Contains (edges_among xs of) x → Contains (edges_among (slice_set xs at v) of) x
+edges_still [] at v has of x h = h
+edges_still (y ∷ xs) zero v has zero x h = has x h
+edges_still (y ∷ xs) zero v has (suc of) x h = h
+edges_still (y ∷ xs) (suc at) v has zero x h = h
+edges_still (y ∷ xs) (suc at) v has (suc of) x h = edges_still xs at v has of x h

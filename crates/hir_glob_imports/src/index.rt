@@ -12,6 +12,7 @@ pub(crate) struct EdgesByModule {
 }
 
 /// Lists without edges are put behind the others, until there is one at a place.
+#[tactic(auto, using(crate::proofs::EdgeLists::edges_more))]
 fn lengthen(alloc: Global, lists: &mut Vec<Vec<usize>>, at: usize) -> Result<(), AllocError>
     ensures same { (of : ℕ) → edges_among lists.new.items of ≡ edges_among lists.old.items of }
     ensures long { OnOk result (at < length lists.new.items) }

@@ -169,11 +169,6 @@ impl ItemScope {
     {
         match def {
             PerNs {
-                types: None,
-                values: None,
-                macros: None,
-            } => self.push_unresolved(lookup.1),
-            PerNs {
                 types: Some(item),
                 values: None,
                 macros: None,
@@ -188,27 +183,29 @@ impl ItemScope {
                 values: None,
                 macros: Some(item),
             } => self.push_macro(glob_imports, &lookup, item, import),
-            several => self.push_several(glob_imports, &lookup, several, import),
+            several => self.push_several(glob_imports, lookup, several, import),
         }
     }
 
-    /// Binds items of several namespaces to a name, and says whether that changed anything.
+    /// Binds items of several namespaces to a name, or notes it as unresolved, and says whether that changed anything.
     fn push_several(
         &mut self,
         glob_imports: &mut PerNsGlobImports,
-        lookup: &(ModuleId, Name),
+        lookup: (ModuleId, Name),
         def: PerNs,
         import: Option<ImportOrExternCrate>,
     ) -> Result<bool, AllocError>
-        requires something { is_nothing def ≡ false }
-        ensures ok { OnOk result (self.new ≡ pushed_scope glob_imports.old lookup.now def import self.old) }
-        ensures globs { OnOk result (glob_imports.new ≡ pushed_globs self.old lookup.now def import glob_imports.old) }
-        ensures changed { IfOk result (λ changed. changed ≡ push_changes self.old glob_imports.old lookup.now def import) }
+        ensures ok { OnOk result (self.new ≡ pushed_scope glob_imports.old lookup def import self.old) }
+        ensures globs { OnOk result (glob_imports.new ≡ pushed_globs self.old lookup def import glob_imports.old) }
+        ensures changed { IfOk result (λ changed. changed ≡ push_changes self.old glob_imports.old lookup def import) }
         ensures err { OnErr result (self.new ≡ self.old) }
         ensures err_globs { OnErr result (glob_imports.new ≡ glob_imports.old) }
     {
-        let candidates = self.candidates(glob_imports, lookup, def, import);
-        self.bind(glob_imports, lookup, candidates)?;
+        if def.is_none() {
+            return self.push_unresolved(lookup.1);
+        }
+        let candidates = self.candidates(glob_imports, &lookup, def, import);
+        self.bind(glob_imports, &lookup, candidates)?;
         Ok(candidates.types.is_some() || candidates.values.is_some() || candidates.macros.is_some())
     }
 
