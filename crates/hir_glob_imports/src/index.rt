@@ -24,14 +24,21 @@ fn lengthen(alloc: Global, lists: &mut Vec<Vec<usize>>, at: usize) -> Result<(),
 }
 
 /// Puts an edge behind the others of a list.
-fn push_at(lists: &mut Vec<Vec<usize>>, at: usize, edge: usize) -> Result<(), AllocError>
+fn add_to(list: &mut Vec<usize>, edge: usize) -> Result<(), AllocError>
+    ensures added { OnOk result (Contains list.new.items edge) }
+    ensures kept { (other : ℕ) → Contains list.old.items other → Contains list.new.items other }
+{
+    list.push(edge)?;
+    Ok(())
+}
+
+/// Puts an edge behind the others of a module that has a list.
+fn add_at(lists: &mut Vec<Vec<usize>>, at: usize, edge: usize) -> Result<(), AllocError>
     requires there { at < length lists.old.items }
     ensures added { OnOk result (Contains (edges_among lists.new.items at) edge) }
     ensures kept { (of other : ℕ) → Contains (edges_among lists.old.items of) other → Contains (edges_among lists.new.items of) other }
 {
-    let list = &mut lists[at];
-    list.push(edge)?;
-    Ok(())
+    add_to(&mut lists[at], edge)
 }
 
 impl EdgesByModule {
@@ -57,6 +64,6 @@ impl EdgesByModule {
         ensures kept { (of other : ℕ) → Contains (edges_at self.old of) other → Contains (edges_at self.new of) other }
     {
         lengthen(self.alloc, &mut self.lists, at as usize)?;
-        push_at(&mut self.lists, at as usize, edge)
+        add_at(&mut self.lists, at as usize, edge)
     }
 }
