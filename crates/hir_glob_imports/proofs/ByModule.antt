@@ -5,9 +5,7 @@ use Rattle.std.specs.declared.cmp.Ordering.TheVariants.{Less, Equal, Greater}
 use Rattle.std.specs.Ordering.{nat_cmp, is_eq, ordering_then}
 use Rattle.std.specs.BTreeMap.{is_at}
 use Rattle.std.specs.Map.{lookup}
-use Rattle.std.specs.Cmp.Lexicographic.{slice_cmp}
 use Rattle.hir_scope.specs.HirIds.declared.ids.TraitId.{TraitId}
-use Rattle.hir_scope_table.specs.Entries.{item_at}
 use Rattle.hir_glob_imports.specs.Types.{Brought, Key, Slot}
 use Rattle.hir_glob_imports.specs.declared.edge.Key.TheVariants.{Types, Values, Macros, Unnamed}
 use Rattle.hir_glob_imports.specs.contracts.edge.KeyOrd.TheImpl as key_order
@@ -61,30 +59,6 @@ pub first_written : (old new : NamesBrought) (key : Key) (by : Option Brought) �
 first_written old new key by empty written q =
     written q ∙ ap (λ (names : NamesBrought). cond (is_eq (key_order.ghosts.cmp key q)) by (brought_in (Some names) q)) empty
     ∙ ap (λ (o : Option Brought). cond (is_eq (key_order.ghosts.cmp key q)) by o) (nothing_in q)
-
--- ---- a name of one namespace is written
-
-module _ (names : NamesBrought) (new : List (List ℕ × Brought)) (name : List ℕ) (by : Option Brought) where
-  pub type_written : ((q : List ℕ) → item_at new q ≡ cond (is_eq (slice_cmp nat_cmp name q)) by (item_at names.types q))
-      → (q : Key) → brought_in (Some (record names { types = new })) q ≡ cond (is_eq (key_order.ghosts.cmp (Types name) q)) by (brought_in (Some names) q)
-  type_written written (Types q) = written q
-  type_written written (Values q) = refl
-  type_written written (Macros q) = refl
-  type_written written (Unnamed q) = refl
-
-  pub value_written : ((q : List ℕ) → item_at new q ≡ cond (is_eq (slice_cmp nat_cmp name q)) by (item_at names.values q))
-      → (q : Key) → brought_in (Some (record names { values = new })) q ≡ cond (is_eq (key_order.ghosts.cmp (Values name) q)) by (brought_in (Some names) q)
-  value_written written (Types q) = refl
-  value_written written (Values q) = written q
-  value_written written (Macros q) = refl
-  value_written written (Unnamed q) = refl
-
-  pub macro_written : ((q : List ℕ) → item_at new q ≡ cond (is_eq (slice_cmp nat_cmp name q)) by (item_at names.macros q))
-      → (q : Key) → brought_in (Some (record names { macros = new })) q ≡ cond (is_eq (key_order.ghosts.cmp (Macros name) q)) by (brought_in (Some names) q)
-  macro_written written (Types q) = refl
-  macro_written written (Values q) = refl
-  macro_written written (Macros q) = written q
-  macro_written written (Unnamed q) = refl
 
 none_either : (b : Bool) (o : Option Brought) → o ≡ None → o ≡ cond b None o
 none_either true o none = none

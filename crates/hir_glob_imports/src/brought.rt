@@ -138,16 +138,16 @@ impl SeenCache {
         let Target::Own(module) = source else {
             return Ok(());
         };
-        let module = module as usize;
-        'next: while self.runs.len() <= module {
+        let place = module as usize;
+        'next: while self.runs.len() <= place {
             self.runs.push(None)?;
         }
         let next = if at < usize::MAX { at + 1 } else { at };
-        let first = match self.runs[module] {
+        let first = match self.runs[place] {
             Some(run) => run.first,
             None => at,
         };
-        self.runs[module] = Some(Run { first, next });
+        self.runs[place] = Some(Run { first, next });
         Ok(())
     }
 
