@@ -3,7 +3,7 @@ use Rattle.std.specs.Ordering.{nat_cmp}
 use Rattle.std.specs.Cmp.Lexicographic.{slice_cmp}
 use Rattle.std.specs.declared.cmp.Ordering.TheVariants.{Less, Equal, Greater}
 use Rattle.std.proofs.lemmas.Cmp.{nat_list_cmp_total}
-use Rattle.hir_scope_table.specs.Inner.Place.{IsAboveFirst}
+use Rattle.hir_scope_table.specs.Inner.Place.{ComparesAt, IsAboveFirst}
 use Rattle.hir_scope_table.proofs.Places.{above_none, above_one_more, belongs_before, belongs_here, belongs_last, compares_at, fewer_digits}
 use Rattle.hir_scope_table.proofs.probe.place_behind.Goals as goal
 
@@ -22,7 +22,9 @@ place_within-requires-clause-above g c =
     subst (IsAboveFirst compare es) next (above_one_more (slice_cmp nat_cmp) nat_list_cmp_total c.args.name.now es c.args.from inside c.requires.above here)
 
 pub place_within-requires-clause-below : goal.place_within-requires-clause-below
-place_within-requires-clause-below g c = above_none (slice_cmp nat_cmp c.args.name.now) c.args.entries.now
+place_within-requires-clause-below g c =
+    let compare = slice_cmp nat_cmp c.args.name.now in
+    subst (λ n. ComparesAt compare c.args.entries.now n Less) (sym c.len-in-Greater.ensures.value) (above_none compare c.args.entries.now)
 
 pub returns-in-Less-clause-belongs : goal.returns-in-Less-clause-belongs
 returns-in-Less-clause-belongs g c =
@@ -42,5 +44,5 @@ returns-in-Equal-clause-belongs g c =
 
 pub returns-in-Greater-clause-count : goal.returns-in-Greater-clause-count
 returns-in-Greater-clause-count g c =
-    let fewer = fewer_digits (length c.args.entries.now - (c.args.from + 1)) (length c.args.entries.now) (omega arith) in
+    let fewer = fewer_digits (c.len-in-Greater.result - (c.args.from + 1)) (length c.args.entries.now) (omega (arith, c.len-in-Greater.ensures.value)) in
     omega (arith, fewer, c.place_within.ensures.count, c.compare.ensures.counted)
