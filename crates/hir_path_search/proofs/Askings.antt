@@ -55,7 +55,7 @@ whole_later None (Some j) a b = refl
 whole_later (Some i) None a b = refl
 whole_later (Some i) (Some j) a b = refl
 
-whole_joined : (a b : ResolvePathResult) → whole_items (joined a b) ≡ both (whole_items a) (whole_items b)
+pub whole_joined : (a b : ResolvePathResult) → whole_items (joined a b) ≡ both (whole_items a) (whole_items b)
 whole_joined a b = whole_later a.segment_index b.segment_index a.resolved_def b.resolved_def
 
 -- ---- further out

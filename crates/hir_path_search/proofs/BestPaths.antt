@@ -27,10 +27,10 @@ compare zero b = inl (omega arith)
 compare (suc a) zero = inr (omega arith)
 compare (suc a) (suc b) = elim (compare a b) [ inl le ↦ inl (omega (arith, le)) | inr gt ↦ inr (omega (arith, gt)) ]
 
-greater : (m n : ℕ) → n < m → nat_cmp m n ≡ Greater
+pub greater : (m n : ℕ) → n < m → nat_cmp m n ≡ Greater
 greater m n above = sym (nat_cmp_is m n Greater above)
 
-tied : (m n : ℕ) → m ≡ n → nat_cmp m n ≡ Equal
+pub tied : (m n : ℕ) → m ≡ n → nat_cmp m n ≡ Equal
 tied m n same = ap (λ k. nat_cmp k n) same ∙ tied_itself nat_cmp_total n
 
 -- a longer path comes later

@@ -3,8 +3,10 @@ pub mod Onwards
 pub mod Askings
 pub mod Beginnings
 pub mod Through
+pub mod Rooted
 pub mod Gathering
 pub mod BestPaths
+pub mod Alone
 pub mod Listed
 pub mod Hits
 pub mod Covered
