@@ -1,5 +1,5 @@
 -- Endings that go through a name, and the best of them.
-use Rattle.std.proofs.Common.{◌≡◌, ℕ, zero, suc, ◌+◌, Bool, true, false, cond, List, [], ◌∷◌, map, length, Option, Some, None, refl, sym, ap, subst, ◌∙◌, inl, inr, ◌⊎◌, arith}
+use Rattle.std.proofs.Common.{◌≡◌, ℕ, zero, suc, ◌+◌, Bool, true, false, cond, List, [], ◌∷◌, map, length, Option, Some, None, option_map, refl, sym, ap, subst, ◌∙◌, inl, inr, ◌⊎◌, arith}
 use Rattle.std.specs.Prelude.{IfSome}
 use Rattle.hir_nameres.specs.HirIds.declared.ids.ModuleDefId.{ModuleDefId}
 use Rattle.hir_nameres.specs.HirPerNs.PerNs.{Item, nothing}
@@ -250,6 +250,18 @@ module _ (is_sought : ModuleDefId → Bool) (ns : Namespace) (maps : Maps) (n : 
           let these : e.names ≡ step.name ∷ y ∷ others = names ∙ ap (λ name. name ∷ y ∷ others) (sym here) in
           let b = ends-before is_sought ns whole ways further step.name step.private step.imported is.is_private is.is_imported is.whole_on is.ways_on e y others these ends in
           absurd (least.first b.0 b.1)
+
+  -- one more, whatever is behind it
+  pub tried-more : (steps left : List Step) (step : Step) (best found : Option EndingValue)
+      → AreTried is_sought ns maps (suc (suc n)) steps (step ∷ left) best → IsBestEnding maps is_sought ns (suc n) step.looks.items found
+      → AreTried is_sought ns maps (suc (suc n)) steps left (better_of best (option_map (after_name step.name step.private step.imported) found))
+  tried-more steps left step best (Some found) tried least = tried-some steps left step best found tried least
+  tried-more steps left step best None tried least =
+      subst (AreTried is_sought ns maps (suc (suc n)) steps left) (sym (kept best)) (tried-nowhere steps left step best tried least)
+    where
+      kept : (b : Option EndingValue) → better_of b None ≡ b
+      kept None = refl
+      kept (Some b) = refl
 
   pub tried-all : (steps : List Step) (best : Option EndingValue) → AreTried is_sought ns maps (suc (suc n)) steps [] best
       → IsBestThrough maps is_sought ns (suc (suc n)) steps best

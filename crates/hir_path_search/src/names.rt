@@ -3,6 +3,7 @@ ghost use Rattle.std.specs.Prelude.{◌≡◌, ◌∷◌, [], IfOk, OnOk, true, 
 ghost use Rattle.hir_nameres.specs.DefMaps.{maps_of};
 ghost use Rattle.hir_path_search.specs.NextNames.{is_named, next_at, whole_at, ways_at, AreCandidates, AreNext};
 ghost use Rattle.hir_path_search.specs.Askers.{AreAskers};
+ghost use Rattle.hir_path_search.specs.Endings.{after_name};
 ghost use Rattle.hir_path_search.specs.Judging.{is_imported_way, is_private_way, named_in, type_of};
 ghost use Rattle.hir_path_search.specs.Naming.{sought_named, MeetsEnding, MeetsStep};
 
@@ -35,6 +36,22 @@ pub struct Step {
     pub imported: bool,
     /// Where a path has come to behind it.
     pub looks: Vec<Look>,
+}
+
+impl Step {
+    /// The name, and an ending behind it.
+    pub fn followed_by(&self, ending: Option<Ending>) -> Result<Option<Ending>, AllocError>
+        ensures value { IfOk result (λ whole. whole ≡ option_map (after_name self.now.name self.now.private self.now.imported) ending) }
+    {
+        match ending {
+            Some(ending) => Ok(Some(ending.behind(
+                &self.name,
+                self.private,
+                self.imported,
+            )?)),
+            None => Ok(None),
+        }
+    }
 }
 
 /// What is known of the names that come next.

@@ -104,11 +104,9 @@ impl<S: Sought> PathSearch<'_, S> {
     {
         let mut best = None;
         let mut rest = steps;
-        'each: while let [step, others @ ..] = rest {
-            if let Some(ending) = self.best(alloc, memo, left, step.looks.as_slice())? {
-                let whole = ending.behind(&step.name, step.private, step.imported)?;
-                best = better(best, Some(whole));
-            }
+        'each: while let Some((step, others)) = rest.split_first() {
+            let found = self.best(alloc, memo, left, step.looks.as_slice())?;
+            best = better(best, step.followed_by(found)?);
             rest = others;
         }
         Ok(best)
