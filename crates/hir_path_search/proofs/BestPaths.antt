@@ -385,3 +385,7 @@ module _ (maps : Maps) (local : Local) (at : ModuleId) (is_sought : ModuleDefId 
       by : (length other.segments < most) ⊎ (length other.segments ≡ most) → ⊥
       by (inl lt) = none other by_import (length other.segments) lt (length_of prefix most other is) names
       by (inr same) = here other by_import (subst (λ n. IsOfLength prefix n other) same (length_of prefix most other is)) names
+
+  pub finds-last : (prefix : PathPrefix) (most : ℕ) → NoneBelow prefix most → (found : Option Path) → Found (IsOfLength prefix most) found → Finds maps local at is_sought ns prefix most found
+  finds-last prefix most none None here = finds-none prefix most none here
+  finds-last prefix most none (Some path) best = finds-at prefix most most path (omega arith) none best

@@ -1,5 +1,5 @@
 -- What is kept is found again.
-use Rattle.std.proofs.Common.{◌≡◌, ℕ, suc, ◌<◌, nat_eq, Bool, true, false, ◌&&◌, cond, List, [], ◌∷◌, Option, Some, None, Ordering, Less, Equal, Greater, refl, sym, ap, subst, ◌∙◌, true≢false}
+use Rattle.std.proofs.Common.{◌≡◌, ℕ, suc, ◌<◌, nat_eq, Bool, true, false, ◌&&◌, cond, List, [], ◌∷◌, ◌++◌, Option, Some, None, Ordering, Less, Equal, Greater, refl, sym, ap, subst, ◌∙◌, true≢false}
 use Rattle.std.specs.declared.alloc.Global.{Global}
 use Rattle.std.specs.declared.rc.Rc.{Rc}
 use Rattle.std.specs.declared.vec.Vec.{Vec}
@@ -26,7 +26,7 @@ use Rattle.hir_path_search.specs.declared.memo.Memo.{Memo}
 use Rattle.hir_path_search.specs.declared.memo.ModuleLook.{ModuleLook}
 use Rattle.hir_path_search.specs.declared.names.NextNames.{NextNames}
 use Rattle.hir_path_search.specs.Endings.{EndingValue}
-use Rattle.hir_path_search.specs.Known.{AllEntries, IsKnown, looks_of}
+use Rattle.hir_path_search.specs.Known.{AllEntries, IsKnown, look_of, looks_of}
 use Rattle.hir_path_search.specs.NextNames.{AreNextOf, IsBestEnding}
 
 -- ---- entries
@@ -92,6 +92,28 @@ exact_number m n e = elim_by (ranked m n (nat_cmp m n) refl) e
   where
     elim_by : MatchOrdering (nat_cmp m n) (m < n) (m ≡ n) (n < m) → nat_cmp m n ≡ Equal → m ≡ n
     elim_by h same = subst (λ r. MatchOrdering r (m < n) (m ≡ n) (n < m)) same h
+
+-- ---- modules one after another
+
+module _ (all : List Look) where
+  pub looks-none : (keys : List ModuleLook) → keys ≡ [] → all ≡ looks_of keys ++ all
+  looks-none keys none = sym (ap (λ ks. looks_of ks ++ all) none)
+
+  pub looks-more : (keys new : List ModuleLook) (key : ModuleLook) (left others : List Look) → all ≡ looks_of keys ++ left → left ≡ look_of key ∷ others → new ≡ keys ++ key ∷ []
+      → all ≡ looks_of new ++ others
+  looks-more keys new key left others are taken pushed =
+      are ∙ ap (λ ls. looks_of keys ++ ls) taken ∙ pushed_to keys ∙ sym (ap (λ ks. looks_of ks ++ others) pushed)
+    where
+      pushed_to : (ks : List ModuleLook) → looks_of ks ++ look_of key ∷ others ≡ looks_of (ks ++ key ∷ []) ++ others
+      pushed_to [] = refl
+      pushed_to (k ∷ ks) = ap (λ ls. look_of k ∷ ls) (pushed_to ks)
+
+  pub looks-all : (keys : List ModuleLook) (left : List Look) → all ≡ looks_of keys ++ left → left ≡ [] → all ≡ looks_of keys
+  looks-all keys left are none = are ∙ ap (λ ls. looks_of keys ++ ls) none ∙ nothing_behind (looks_of keys)
+    where
+      nothing_behind : (ls : List Look) → ls ++ [] ≡ ls
+      nothing_behind [] = refl
+      nothing_behind (l ∷ ls) = ap (λ xs. l ∷ xs) (nothing_behind ls)
 
 -- ---- what is known behind modules
 
