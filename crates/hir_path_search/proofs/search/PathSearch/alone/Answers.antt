@@ -15,15 +15,15 @@ returns-in_default g c =
     let none : answered maps c.args.self.now.local.now shadow_modes.Other c.args.self.now.at c.args.kind [] ≡ None = search rules in
     record { value = alone-none maps c.args.self.now.local.now c.args.self.now.at sought ns c.args.kind none }
 
-pub returns-in-Some-sought_in : goal.returns-in-Some-sought_in
-returns-in-Some-sought_in g c =
+pub returns-in-Some-2 : goal.returns-in-Some-2
+returns-in-Some-2 g c =
     let maps = maps_of c.args.self.now.maps in
     let sought = g.S.Sought.is_sought c.args.self.now.sought.now in
     let ns = c.args.self.now.namespace in
     let whole : answered maps c.args.self.now.local.now shadow_modes.Other c.args.self.now.at c.args.kind [] ≡ Some c.in-Some.items = search rules in
     record {
-      value = alone-sought maps c.args.self.now.local.now c.args.self.now.at sought ns c.args.kind c.in-Some.items c.in-Some-sought_in.field-0 whole
-          (sym c.in_ok-sought_in.ensures.value ∙ c.in-Some-sought_in.is);
+      value = alone-sought maps c.args.self.now.local.now c.args.self.now.at sought ns c.args.kind c.in-Some.items c.in-Some-2.field-0 whole
+          (sym c.in_ok-sought_in.ensures.value ∙ c.in-Some-2.is);
     }
 
 pub returns-in-None : goal.returns-in-None
