@@ -25,7 +25,7 @@ out-preserved c =
     let holder : ModuleId = c.in-Some.holder in
     let P : List Asker → Type 0 = λ xs. AreSome maps c.args.at xs holder in
     let root : is_block_root c.out.last ≡ true = sym c.is_block_root.ensures.value ∙ c.out-test.true in
-    subst P (sym c.in_ok-push-2.ensures.items) (some-more maps c.args.at c.out.askers.items c.out.last holder root c.in-Some.ensures.above c.out.invariant)
+    subst P (sym c.in_ok-push-in-Some.ensures.items) (some-more maps c.args.at c.out.askers.items c.out.last holder root c.in-Some.ensures.above c.out.invariant)
 
 pub returns-in-None : goal.returns-in-None
 returns-in-None c =
@@ -46,6 +46,6 @@ returns c =
     let root : is_block_root c.out.last ≡ false = sym c.is_block_root.ensures.value ∙ c.out-test.false in
     let inside : is_some c.out.last.map.block ≡ true = c.is_none.ensures ∙ ap not c.if-is_none.false in
     let P : List Asker → Type 0 = λ xs. AreAskers maps c.args.at xs in
-    let pushed : c.push-3.new.self.items ≡ c.out.askers.items ++ asker.Preludes (crate_root c.out.last.map.krate) ∷ [] =
-    c.in_ok-push-3.ensures.items ∙ ap (λ (root : ModuleId). c.out.askers.items ++ asker.Preludes root ∷ []) c.crate_root.ensures.value in
+    let pushed : c.push-2.new.self.items ≡ c.out.askers.items ++ asker.Preludes (crate_root c.out.last.map.krate) ∷ [] =
+    c.in_ok-push-2.ensures.items ∙ ap (λ (root : ModuleId). c.out.askers.items ++ asker.Preludes root ∷ []) c.crate_root.ensures.value in
     record { value = subst P (sym pushed) (some-inside maps c.args.at c.out.askers.items c.out.last root inside c.out.invariant) }
