@@ -2,11 +2,11 @@
 use Rattle.std.proofs.Common.{rules, ◌≡◌, List, Some, refl, sym, subst}
 use Rattle.std.specs.declared.alloc.Global.{Global}
 use Rattle.std.specs.declared.rc.Rc.{Rc}
-use Rattle.std.proofs.lemmas.Result.{IfOk-weaker}
+use Rattle.std.proofs.lemmas.Result.{MatchResult-weaker}
 use Rattle.hir_nameres.specs.DefMaps.{maps_of}
 use Rattle.hir_path_search.specs.declared.memo.Memo.{Memo}
 use Rattle.hir_path_search.specs.declared.names.NextNames.{NextNames}
-use Rattle.hir_path_search.specs.Known.{IsKnown, looks_of}
+use Rattle.hir_path_search.specs.Known.{looks_of}
 use Rattle.hir_path_search.specs.NextNames.{AreNextOf}
 use Rattle.hir_path_search.proofs.Remembered.{next-found, next-kept}
 use Rattle.hir_path_search.proofs.search.PathSearch.names_behind.Goals as goal
@@ -31,9 +31,8 @@ returns-in-Some-get g c =
     let is : AreNextOf maps sought ns c.args.looks.now next.value =
     next-found maps sought ns c.args.memo.now c.in-Some.modules c.args.looks.now next c.requires.known are (sym c.in-Some-get.ensures.value) in
     record {
-      value = IfOk-weaker c.clone.result (λ copy. copy.value ≡ next.value) (λ copy. AreNextOf maps sought ns c.args.looks.now copy.value)
-          (λ copy same. subst (AreNextOf maps sought ns c.args.looks.now) (sym same) is) c.clone.ensures.cases;
-      known = IfOk-weaker c.clone.result (λ copy. copy.value ≡ next.value) (λ _. IsKnown maps sought ns c.args.memo.now) (λ copy same. c.requires.known) c.clone.ensures.cases;
+      value = MatchResult-weaker c.clone.result (λ copy same. subst (AreNextOf maps sought ns c.args.looks.now) (sym same) is) (λ e any. tt) c.clone.ensures.cases;
+      known = MatchResult-weaker c.clone.result (λ copy same. c.requires.known) (λ e any. tt) c.clone.ensures.cases;
     }
 
 pub returns : goal.returns
@@ -44,7 +43,7 @@ returns g c =
     let are : c.args.looks.now ≡ looks_of c.in-Some.modules.items = search rules in
     let memo : Memo = c.args.memo.now in
     let is : AreNextOf maps sought ns c.args.looks.now c.in_ok-next.next.value = subst (AreNextOf maps sought ns c.args.looks.now) (sym c.in_ok-next.ensures.ok)
-    c.in_ok-new_names.ensures.value in
+    c.in_ok-new_names-2.ensures.value in
     let copied : AreNextOf maps sought ns c.args.looks.now c.in_ok-clone.field-0.value = subst (AreNextOf maps sought ns c.args.looks.now) (sym c.in_ok-clone.ensures.cases) is in
     record {
       value = is;
