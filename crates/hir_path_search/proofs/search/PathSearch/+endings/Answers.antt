@@ -132,7 +132,7 @@ best-returns g t c =
     let ns = c.args.self.now.namespace in
     let asked : Asked = record { left = c.args.left; looks = c.in-Some.modules } in
     let are : c.args.looks.now ≡ looks_of c.in-Some.modules.items = search rules in
-    let memo : Memo = c.new_best-found.new.memo in
+    let memo : Memo = c.new_best-2.new.memo in
     let is : IsBestEnding maps sought ns (suc c.args.left) c.args.looks.now c.in_ok-kept.kept =
     subst (IsBestEnding maps sought ns (suc c.args.left) c.args.looks.now) (sym c.in_ok-kept.ensures.value) c.in_ok-found.ensures.value in
     record {

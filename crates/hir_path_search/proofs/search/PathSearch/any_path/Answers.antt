@@ -19,8 +19,8 @@ returns-in-Some g c =
     let ns = c.args.self.now.namespace in
     let P : PathKind → Option Path → Type 0 = λ kind found. FindsAmong maps local at sought ns (IsOfKind kind c.args.count) found in
     record {
-      value = found-plain maps local at sought ns c.args.count c.in-Some.path (subst (P kinds.Plain) c.in-Some.is c.in_ok-path_of_kind.ensures.value);
-      known = c.in_ok-path_of_kind.ensures.known;
+      value = found-plain maps local at sought ns c.args.count c.in-Some.path (subst (P kinds.Plain) c.in-Some.is c.in_ok-path.ensures.value);
+      known = c.in_ok-path.ensures.known;
     }
 
 pub returns-in-Some-2 : goal.returns-in-Some-2
@@ -31,10 +31,10 @@ returns-in-Some-2 g c =
     let sought = g.S.Sought.is_sought c.args.self.now.sought.now in
     let ns = c.args.self.now.namespace in
     let P : PathKind → Option Path → Type 0 = λ kind found. FindsAmong maps local at sought ns (IsOfKind kind c.args.count) found in
-    let none : P kinds.Plain None = subst (P kinds.Plain) c.in_default.is c.in_ok-path_of_kind.ensures.value in
+    let none : P kinds.Plain None = subst (P kinds.Plain) c.in_default.is c.in_ok-path.ensures.value in
     record {
-      value = found-crate maps local at sought ns c.args.count c.in-Some-2.path none (subst (P kinds.Crate) c.in-Some-2.is c.in_ok-path_of_kind-2.ensures.value);
-      known = c.in_ok-path_of_kind-2.ensures.known;
+      value = found-crate maps local at sought ns c.args.count c.in-Some-2.path none (subst (P kinds.Crate) c.in-Some-2.is c.in_ok-path-2.ensures.value);
+      known = c.in_ok-path-2.ensures.known;
     }
 
 pub returns-in-Some-3 : goal.returns-in-Some-3
@@ -45,11 +45,11 @@ returns-in-Some-3 g c =
     let sought = g.S.Sought.is_sought c.args.self.now.sought.now in
     let ns = c.args.self.now.namespace in
     let P : PathKind → Option Path → Type 0 = λ kind found. FindsAmong maps local at sought ns (IsOfKind kind c.args.count) found in
-    let none : P kinds.Plain None = subst (P kinds.Plain) c.in_default.is c.in_ok-path_of_kind.ensures.value in
-    let none_crate : P kinds.Crate None = subst (P kinds.Crate) c.in_default-2.is c.in_ok-path_of_kind-2.ensures.value in
+    let none : P kinds.Plain None = subst (P kinds.Plain) c.in_default.is c.in_ok-path.ensures.value in
+    let none_crate : P kinds.Crate None = subst (P kinds.Crate) c.in_default-2.is c.in_ok-path-2.ensures.value in
     record {
-      value = found-self maps local at sought ns c.args.count c.in-Some-3.path none none_crate (subst (P (kinds.Super 0)) c.in-Some-3.is c.in_ok-path_of_kind-3.ensures.value);
-      known = c.in_ok-path_of_kind-3.ensures.known;
+      value = found-self maps local at sought ns c.args.count c.in-Some-3.path none none_crate (subst (P (kinds.Super 0)) c.in-Some-3.is c.in_ok-path-3.ensures.value);
+      known = c.in_ok-path-3.ensures.known;
     }
 
 pub returns-in-Some-4 : goal.returns-in-Some-4
@@ -60,12 +60,12 @@ returns-in-Some-4 g c =
     let sought = g.S.Sought.is_sought c.args.self.now.sought.now in
     let ns = c.args.self.now.namespace in
     let P : PathKind → Option Path → Type 0 = λ kind found. FindsAmong maps local at sought ns (IsOfKind kind c.args.count) found in
-    let none : P kinds.Plain None = subst (P kinds.Plain) c.in_default.is c.in_ok-path_of_kind.ensures.value in
-    let none_crate : P kinds.Crate None = subst (P kinds.Crate) c.in_default-2.is c.in_ok-path_of_kind-2.ensures.value in
-    let none_self : P (kinds.Super 0) None = subst (P (kinds.Super 0)) c.in_default-3.is c.in_ok-path_of_kind-3.ensures.value in
+    let none : P kinds.Plain None = subst (P kinds.Plain) c.in_default.is c.in_ok-path.ensures.value in
+    let none_crate : P kinds.Crate None = subst (P kinds.Crate) c.in_default-2.is c.in_ok-path-2.ensures.value in
+    let none_self : P (kinds.Super 0) None = subst (P (kinds.Super 0)) c.in_default-3.is c.in_ok-path-3.ensures.value in
     record {
-      value = found-absolute maps local at sought ns c.args.count c.in-Some-4.path none none_crate none_self (subst (P kinds.Abs) c.in-Some-4.is c.in_ok-path_of_kind-4.ensures.value);
-      known = c.in_ok-path_of_kind-4.ensures.known;
+      value = found-absolute maps local at sought ns c.args.count c.in-Some-4.path none none_crate none_self (subst (P kinds.Abs) c.in-Some-4.is c.in_ok-path-4.ensures.value);
+      known = c.in_ok-path-4.ensures.known;
     }
 
 pub returns : goal.returns
@@ -76,10 +76,10 @@ returns g c =
     let sought = g.S.Sought.is_sought c.args.self.now.sought.now in
     let ns = c.args.self.now.namespace in
     let P : PathKind → Option Path → Type 0 = λ kind found. FindsAmong maps local at sought ns (IsOfKind kind c.args.count) found in
-    let none : P kinds.Plain None = subst (P kinds.Plain) c.in_default.is c.in_ok-path_of_kind.ensures.value in
-    let none_crate : P kinds.Crate None = subst (P kinds.Crate) c.in_default-2.is c.in_ok-path_of_kind-2.ensures.value in
-    let none_self : P (kinds.Super 0) None = subst (P (kinds.Super 0)) c.in_default-3.is c.in_ok-path_of_kind-3.ensures.value in
-    let none_absolute : P kinds.Abs None = subst (P kinds.Abs) c.in_default-4.is c.in_ok-path_of_kind-4.ensures.value in
+    let none : P kinds.Plain None = subst (P kinds.Plain) c.in_default.is c.in_ok-path.ensures.value in
+    let none_crate : P kinds.Crate None = subst (P kinds.Crate) c.in_default-2.is c.in_ok-path-2.ensures.value in
+    let none_self : P (kinds.Super 0) None = subst (P (kinds.Super 0)) c.in_default-3.is c.in_ok-path-3.ensures.value in
+    let none_absolute : P kinds.Abs None = subst (P kinds.Abs) c.in_default-4.is c.in_ok-path-4.ensures.value in
     record {
       value = IfOk-weaker c.path_of_supers.result (FindsAmong maps local at sought ns (IsOfSupers c.args.count)) (FindsAmong maps local at sought ns (IsOfLength prefixes.Plain c.args.count))
           (λ found is. found-supers maps local at sought ns c.args.count found none none_crate none_self none_absolute is) c.path_of_supers.ensures.value;

@@ -17,7 +17,7 @@ longer-init g c =
     let sought = g.S.Sought.is_sought c.args.self.now.sought.now in
     let ns = c.args.self.now.namespace in
     record {
-      known = known-none maps sought ns (record { next = c.new-next.result; best = c.new-best.result }) c.new-next.ensures.empty c.new-best.ensures.empty;
+      known = known-none maps sought ns (record { next = c.new.result; best = c.new-2.result }) c.new.ensures.empty c.new-2.ensures.empty;
       few = omega arith;
       none = none-below_none maps local at sought ns c.args.prefix;
     }
@@ -31,9 +31,9 @@ longer-preserved g c =
     let ns = c.args.self.now.namespace in
     let P : Option Path → Type 0 = λ found. FindsAmong maps local at sought ns (IsOfLength c.args.prefix c.longer.count) found in
     record {
-      known = c.in_ok-path_of_length.ensures.known;
+      known = c.in_ok-path.ensures.known;
       few = omega arith;
-      none = none-below_more maps local at sought ns c.args.prefix c.longer.count c.longer.invariant.none (subst P c.in_default.is c.in_ok-path_of_length.ensures.value);
+      none = none-below_more maps local at sought ns c.args.prefix c.longer.count c.longer.invariant.none (subst P c.in_default.is c.in_ok-path.ensures.value);
     }
 
 pub returns-in-Some : goal.returns-in-Some
@@ -46,7 +46,7 @@ returns-in-Some g c =
     let P : Option Path → Type 0 = λ found. FindsAmong maps local at sought ns (IsOfLength c.args.prefix c.longer.count) found in
     record {
       value = finds-at maps local at sought ns c.args.prefix c.longer.count c.args.most c.in-Some.path c.longer.invariant.few c.longer.invariant.none
-          (subst P c.in-Some.is c.in_ok-path_of_length.ensures.value);
+          (subst P c.in-Some.is c.in_ok-path.ensures.value);
     }
 
 pub returns : goal.returns

@@ -31,8 +31,8 @@ returns-in-Some-get g c =
     let is : AreNextOf maps sought ns c.args.looks.now next.value =
     next-found maps sought ns c.args.memo.now c.in-Some.modules c.args.looks.now next c.requires.known are (sym c.in-Some-get.ensures.value) in
     record {
-      value = MatchResult-weaker c.clone.result (λ copy same. subst (AreNextOf maps sought ns c.args.looks.now) (sym same) is) (λ e any. tt) c.clone.ensures.cases;
-      known = MatchResult-weaker c.clone.result (λ copy same. c.requires.known) (λ e any. tt) c.clone.ensures.cases;
+      value = MatchResult-weaker c.clone.result c.clone.ensures.cases (λ copy same. subst (AreNextOf maps sought ns c.args.looks.now) (sym same) is) (λ e any. tt);
+      known = MatchResult-weaker c.clone.result c.clone.ensures.cases (λ copy same. c.requires.known) (λ e any. tt);
     }
 
 pub returns : goal.returns

@@ -18,8 +18,8 @@ returns-in_ok-path_of-in-Some g c =
     let Q : Path → Type 0 = λ path. FindsAmong maps local at sought ns (IsOfKind c.args.kind c.args.count) (Some path) in
     record {
       value = subst Q (sym c.in_ok-path_of-in-Some.ensures.value)
-          (found-of_kind maps local at sought ns c.args.kind c.args.count (Some c.in-Some.ending) (subst P c.in-Some.is c.in_ok-best_of_kind.ensures.value));
-      known = c.in_ok-best_of_kind.ensures.known;
+          (found-of_kind maps local at sought ns c.args.kind c.args.count (Some c.in-Some.ending) (subst P c.in-Some.is c.in_ok-ending.ensures.value));
+      known = c.in_ok-ending.ensures.known;
     }
 
 pub returns-in-None : goal.returns-in-None
@@ -31,6 +31,6 @@ returns-in-None g c =
     let ns = c.args.self.now.namespace in
     let P : Option EndingValue → Type 0 = λ best. IsBestOfKind maps local at sought ns c.args.kind c.args.count best in
     record {
-      value = found-of_kind maps local at sought ns c.args.kind c.args.count None (subst P c.in-None.is c.in_ok-best_of_kind.ensures.value);
-      known = c.in_ok-best_of_kind.ensures.known;
+      value = found-of_kind maps local at sought ns c.args.kind c.args.count None (subst P c.in-None.is c.in_ok-ending.ensures.value);
+      known = c.in_ok-ending.ensures.known;
     }

@@ -25,9 +25,9 @@ up-preserved g c =
     let ns = c.args.self.now.namespace in
     let P : Option Path → Type 0 = λ found. FindsAmong maps local at sought ns (IsOfKind (kinds.Super (c.up.levels + 1)) c.args.count) found in
     record {
-      known = c.in_ok-path_of_kind.ensures.known;
+      known = c.in_ok-path.ensures.known;
       few = omega arith;
-      none = none-up_to_more maps local at sought ns c.args.count c.up.levels c.up.invariant.none (subst P c.in_default.is c.in_ok-path_of_kind.ensures.value);
+      none = none-up_to_more maps local at sought ns c.args.count c.up.levels c.up.invariant.none (subst P c.in_default.is c.in_ok-path.ensures.value);
     }
 
 pub returns-in-Some : goal.returns-in-Some
@@ -39,8 +39,8 @@ returns-in-Some g c =
     let ns = c.args.self.now.namespace in
     let P : Option Path → Type 0 = λ found. FindsAmong maps local at sought ns (IsOfKind (kinds.Super (c.up.levels + 1)) c.args.count) found in
     record {
-      value = found-of_levels maps local at sought ns c.args.count c.up.levels c.in-Some.path (omega arith) c.up.invariant.none (subst P c.in-Some.is c.in_ok-path_of_kind.ensures.value);
-      known = c.in_ok-path_of_kind.ensures.known;
+      value = found-of_levels maps local at sought ns c.args.count c.up.levels c.in-Some.path (omega arith) c.up.invariant.none (subst P c.in-Some.is c.in_ok-path.ensures.value);
+      known = c.in_ok-path.ensures.known;
     }
 
 pub returns : goal.returns

@@ -18,8 +18,8 @@ returns-in-Some g c =
     let ns = c.args.self.now.namespace in
     let P : Option Path → Type 0 = λ found. FindsAmong maps local at sought ns (IsOfKind kinds.Crate c.args.count) found in
     record {
-      value = found-rooted_crate maps local at sought ns c.args.count c.in-Some.path (subst P c.in-Some.is c.in_ok-path_of_kind.ensures.value);
-      known = c.in_ok-path_of_kind.ensures.known;
+      value = found-rooted_crate maps local at sought ns c.args.count c.in-Some.path (subst P c.in-Some.is c.in_ok-path.ensures.value);
+      known = c.in_ok-path.ensures.known;
     }
 
 pub returns : goal.returns
@@ -30,7 +30,7 @@ returns g c =
     let sought = g.S.Sought.is_sought c.args.self.now.sought.now in
     let ns = c.args.self.now.namespace in
     let P : Option Path → Type 0 = λ found. FindsAmong maps local at sought ns (IsOfKind kinds.Crate c.args.count) found in
-    let none : P None = subst P c.in_default.is c.in_ok-path_of_kind.ensures.value in
+    let none : P None = subst P c.in_default.is c.in_ok-path.ensures.value in
     record {
       value = IfOk-weaker c.path_of_kind-2.result (FindsAmong maps local at sought ns (IsOfKind kinds.Abs c.args.count))
           (FindsAmong maps local at sought ns (IsOfLength prefixes.Crate c.args.count))
