@@ -9,8 +9,6 @@
 //! else, so the best ending of so many segments is found once for each such list, and so are the names that lead on from it.
 #![tactic(auto)]
 
-ghost use Rattle.std.specs.Prelude.{◌≡◌, true};
-
 mod askers;
 mod candidates;
 mod ending;
@@ -22,9 +20,3 @@ pub mod sought;
 
 pub use search::{PathPrefix, find_path};
 pub use sought::Sought;
-
-fn probe() -> bool
-    ensures { result ≡ true }
-{
-    true
-}

@@ -44,11 +44,7 @@ impl Step {
         ensures value { IfOk result (λ whole. whole ≡ option_map (after_name self.now.name self.now.private self.now.imported) ending) }
     {
         match ending {
-            Some(ending) => Ok(Some(ending.behind(
-                &self.name,
-                self.private,
-                self.imported,
-            )?)),
+            Some(ending) => Ok(Some(ending.behind(&self.name, self.private, self.imported)?)),
             None => Ok(None),
         }
     }
