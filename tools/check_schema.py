@@ -28,7 +28,7 @@ ANSWERS = {
     "crates": "done", "set file": "done", "remove file": "done", "set block": "done", "remove block": "done",
     "set expansion": "done", "remove expansion": "done", "set crate": "done",
     "refresh": "places", "resolve": "answer", "diagnostics": "diagnostics", "trait items": "items", "impl items": "items", "dump": "dump",
-    "names": "names", "modules": "places", "status": "status", "tree": "page",
+    "names": "names", "path to": "path", "modules": "places", "status": "status", "tree": "page",
 }
 # replies of hir_wire_rows that no session gives
 UNGIVEN = ("answer", "list", "refuse")

@@ -2,6 +2,7 @@
 import posixpath
 
 from model.crate import KINDS, Block, Crate, Item, place_text
+from model.paths import path_to
 from model.syntax import collect, dump, kept_attributes, parse_path, plain_attribute, plain_condition
 
 # kinds of items without a visibility
@@ -177,6 +178,8 @@ class Workspace:
             return {"ok": at.map.dump()}
         if command["do"] == "names":
             return {"ok": [{"name": name, **{ns: self.answer(found.get(ns)) for ns in KINDS}} for name, found in at.names()]}
+        if command["do"] == "path to":
+            return {"ok": path_to(self, at, command["def"], command["ns"], command.get("prefix", "plain"), command.get("most", 8))}
         if command["do"] == "impl items":
             number = command["impl"]
             return {"ok": at.map.held(at.impls[number])} if number < len(at.impls) else {"error": "no such impl"}
@@ -237,7 +240,7 @@ class Workspace:
             return {"ok": self.refresh()}
         if do == "status":
             return {"ok": self.status(read_place(command["at"]))[0]}
-        if do in ("resolve", "dump", "names", "trait items", "impl items"):
+        if do in ("resolve", "dump", "names", "path to", "trait items", "impl items"):
             return self.ask(command)
         if do == "modules" and "file" in command:
             file = fold(command["file"])

@@ -6,7 +6,7 @@ use Rattle.hir_base.specs.declared.cfg.CfgAtom.{CfgAtom}
 use Rattle.hir_ids.specs.declared.ids.Crate.{Crate}
 use Rattle.hir_ids.specs.declared.edition.Edition.{Edition}
 use Rattle.hir_item_tree.specs.Attributes.{Attributes, attributes_view}
-use Rattle.hir_messages.specs.Types.{Command, CrateInput, Dependency, MacroStyle, Shadow}
+use Rattle.hir_messages.specs.Types.{Command, CrateInput, Definition, Dependency, MacroStyle, Namespace, PathPrefix, Shadow}
 use Rattle.hir_messages.specs.Types.command
 use Rattle.hir_messages.specs.Edits.{CrateDataValue, EditValue, edit_view}
 
@@ -54,6 +54,8 @@ pub data CommandValue : Type 0 where
   crate_modules : Crate → CommandValue
   -- of a file
   file_modules : List ℕ → CommandValue
+  -- of a definition in a namespace, by a path that begins so, of at most so many segments
+  path_to : PlaceValue → Definition → Namespace → PathPrefix → ℕ → CommandValue
   -- of a crate, and a file
   tree : Crate → List ℕ → CommandValue
 
@@ -71,4 +73,5 @@ command_view (command.Diagnostics krate) = diagnostics krate
 command_view (command.Names at) = names at
 command_view (command.CrateModules krate) = crate_modules krate
 command_view (command.FileModules file) = file_modules file
+command_view (command.PathTo at def ns prefix most) = path_to at def ns prefix most
 command_view (command.Tree krate file) = tree krate file

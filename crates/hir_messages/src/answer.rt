@@ -3,6 +3,8 @@
 //! They name source items by files, places and the nodes' own ids, never by a number of a table, so they
 //! can be compared between sessions.
 ghost use Rattle.std.specs.Prelude.{◌≡◌};
+ghost use Rattle.std.specs.Cmp.{partial_equiv_from_equiv};
+ghost use Rattle.std.specs.Cmp.Lexicographic.{pointwise, lists_equiv};
 
 use hir_base::ast_id::{AstKind, SyntaxId};
 use hir_base::builtin_type::BuiltinType;
@@ -12,7 +14,7 @@ use hir_base::place::Place;
 use std::marker::Model;
 
 /// What an input tree belongs to.
-#[derive(Drop)]
+#[derive(Drop, PartialEq, Eq)]
 pub enum SourceRoot {
     File(FilePath),
     /// A block, by its place.
@@ -64,8 +66,26 @@ impl SourceCalls {
     }
 }
 
+impl PartialEq for SourceCalls {
+    ghost use Rattle.hir_messages.specs.contracts.answer.SourceCallEq.TheImpl.Laws.{laws-law as call_laws};
+
+    ghost eq = { pointwise (⟦<SourceCall as PartialEq>⟧.eq) };
+
+    ghost laws = { partial_equiv_from_equiv (lists_equiv call_laws) };
+
+    fn eq(&self, other: &SourceCalls) -> bool {
+        self.inner == other.inner
+    }
+}
+
+impl Eq for SourceCalls {
+    ghost use Rattle.hir_messages.specs.contracts.answer.SourceCallEq.TheImpl.Laws.{laws-law as call_laws};
+
+    ghost laws = { lists_equiv call_laws };
+}
+
 /// The tree in which an item is written: the input tree, and the calls whose expansions lead to it.
-#[derive(Drop)]
+#[derive(Drop, PartialEq, Eq)]
 pub struct ItemSource {
     pub root: SourceRoot,
     pub calls: SourceCalls,
@@ -80,7 +100,7 @@ pub enum SourceKind {
 }
 
 /// An item, by the tree in which it is written and its node there.
-#[derive(Drop)]
+#[derive(Drop, PartialEq, Eq)]
 pub struct SourceItem {
     pub source: ItemSource,
     pub kind: SourceKind,
@@ -88,7 +108,7 @@ pub struct SourceItem {
 }
 
 /// What a path names.
-#[derive(Drop)]
+#[derive(Drop, PartialEq, Eq)]
 pub enum Definition {
     Builtin(BuiltinType),
     CrateRoot(Crate),

@@ -1,6 +1,7 @@
 //! Commands.
 ghost use Rattle.std.specs.Prelude.{◌≡◌, [], false};
 
+use crate::answer::Definition;
 use crate::edit::Edit;
 use hir_base::cfg::CfgAtom;
 use hir_base::edition::Edition;
@@ -101,6 +102,23 @@ pub enum MacroStyle {
     Attr,
 }
 
+/// What a definition is looked for as.
+#[derive(Clone, Copy, Debug, PartialEq, Eq)]
+pub enum Namespace {
+    Types,
+    Values,
+    Macros,
+}
+
+/// How a path may begin that is looked for.
+#[derive(Clone, Copy, Debug, PartialEq, Eq)]
+pub enum PathPrefix {
+    /// With a name that is in scope, `crate`, `self`, `super`, or `::` and a crate.
+    Plain,
+    /// With `crate`, or `::` and a crate.
+    Crate,
+}
+
 /// What a line asks for.
 #[derive(Drop)]
 pub enum Command {
@@ -146,6 +164,14 @@ pub enum Command {
     /// The modules that a file is.
     FileModules {
         file: FilePath,
+    },
+    /// A shortest path that names a definition, of at most so many segments.
+    PathTo {
+        at: Place,
+        def: Definition,
+        namespace: Namespace,
+        prefix: PathPrefix,
+        most: u32,
     },
     /// The page of a file's tree in a crate.
     Tree {

@@ -8,6 +8,7 @@ use crate::names::BoundNames;
 use hir_base::ast_id::{AstKind, SyntaxId};
 use hir_base::ids::Crate;
 use hir_base::limit::Limit;
+use hir_base::mod_path::ModPath;
 use hir_base::place::Place;
 use std::marker::Model;
 
@@ -59,6 +60,8 @@ pub enum Reply {
     Diagnostics(Diagnostics),
     Items(Items),
     Names(BoundNames),
+    /// A path that names a definition, where one does.
+    Path(Option<ModPath>),
     /// A page.
     Text(String),
     /// The line is no JSON.

@@ -13,3 +13,4 @@ pub mod Diagnosing
 pub mod Listed
 pub mod Placing
 pub mod Naming
+pub mod Refused

@@ -11,6 +11,7 @@ pub mod DiagnosticsStand
 pub mod Dumps
 pub mod Names
 pub mod NamesStand
+pub mod PathsTo
 pub mod Modules
 pub mod AssocItems
 pub mod ItemsStand

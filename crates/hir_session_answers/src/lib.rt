@@ -8,5 +8,6 @@ pub mod definition_files;
 pub mod diagnostics;
 pub mod modules;
 pub mod names;
+pub mod paths;
 pub mod source_items;
 pub mod standing;

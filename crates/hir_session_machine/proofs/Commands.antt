@@ -8,7 +8,11 @@ use Rattle.hir_session_core.specs.HirBase.declared.limit.Limit.TheVariants as li
 use Rattle.hir_session_core.specs.HirIds.declared.ids.Crate.{Crate}
 use Rattle.hir_session_core.specs.HirMessages.CommandValue.{CommandValue, CrateInputValue, crate_modules, crates, diagnostics}
 use Rattle.hir_session_core.specs.HirMessages.CommandValue.{dump, edit, file_modules, impl_items, names}
-use Rattle.hir_session_core.specs.HirMessages.CommandValue.{refresh, resolve, status, trait_items, tree}
+use Rattle.hir_session_core.specs.HirMessages.CommandValue.{path_to, refresh, resolve, status, trait_items, tree}
+use Rattle.hir_session_core.specs.HirBase.ModPath.{Path}
+use Rattle.hir_session_core.specs.HirMessages.declared.answer.Definition.{Definition}
+use Rattle.hir_session_core.specs.HirMessages.declared.command.Namespace.{Namespace}
+use Rattle.hir_session_core.specs.HirMessages.declared.command.PathPrefix.{PathPrefix}
 use Rattle.hir_session_core.specs.HirMessages.Edits.{EditValue}
 use Rattle.hir_session_core.specs.HirMessages.declared.names.BoundName.{BoundName}
 use Rattle.hir_session_core.specs.HirMessages.declared.reply.Reply.{Reply}
@@ -34,13 +38,15 @@ use Rattle.hir_session_core.specs.HirSessionState.SessionState.{SessionState}
 use Rattle.hir_session_core.specs.HirSessionAnswers.Dumps.{dump_at}
 use Rattle.hir_session_core.specs.HirSessionAnswers.Modules.{file_modules_of, modules_of}
 use Rattle.hir_session_core.specs.HirSessionAnswers.Names.{names_of}
+use Rattle.hir_session_core.specs.HirSessionAnswers.PathsTo.{LeadsTo}
 use Rattle.hir_session_core.specs.HirSessionAnswers.Status.{status_of}
 use Rattle.hir_session_core.specs.HirSessionAnswers.TreeText.{tree_text_of}
 use Rattle.hir_session_replies.specs.Replies.{edit_reply, modules_reply, names_reply, new_reply, query_error_reply, refresh_reply}
 use Rattle.hir_session_replies.specs.Replies.{tree_text_reply}
-use Rattle.hir_session_machine.specs.Machine.{MachineState, AnswersCommand, AnswersLine, Moves, makes_session}
+use Rattle.hir_session_machine.specs.Machine.AnswersPath.{leads, finds_none, refuses_all}
+use Rattle.hir_session_machine.specs.Machine.{MachineState, AnswersCommand, AnswersPath, AnswersLine, Moves, makes_session}
 use Rattle.hir_session_machine.specs.Machine.Moves.{applies, refuses, refreshes, refreshes_partly, resolves, tells, shows, shows_none, dumps, dumps_none}
-use Rattle.hir_session_machine.specs.Machine.Moves.{asks_for_trait, asks_for_impl, lists, names_all, lists_modules, lists_file_modules}
+use Rattle.hir_session_machine.specs.Machine.Moves.{asks_for_trait, asks_for_impl, lists, names_all, looks_for_path, lists_modules, lists_file_modules}
 use Rattle.hir_session_machine.specs.Machine.AnswersCommand.{finds_no_memory, begins, refuses_session, comes_too_soon, comes_too_late, calls}
 use Rattle.hir_session_machine.specs.Machine.AnswersLine.{finds_no_memory_for_line, reads_no_command, carries_out}
 use Rattle.hir_session_machine.specs.AnsweredLines.{AnswersInput, AnswersLines, AnswersWithin}
@@ -66,6 +72,7 @@ Says s (dump at) answer t = (t ≡ s) × Shows (dump_at s at) query_error_reply 
 Says s (tree krate path) answer t = (t ≡ s) × Shows (tree_text_of s krate path) tree_text_reply answer
 Says s (diagnostics krate) answer t = ⊤
 Says s (names at) answer t = (t ≡ s) × (answer ≡ names_reply (names_of s at))
+Says s (path_to at def ns prefix most) answer t = (t ≡ s) × AnswersPath s at def ns prefix most answer
 Says s (crate_modules krate) answer t = (t ≡ s) × (answer ≡ modules_reply (modules_of s krate))
 Says s (file_modules path) answer t = (t ≡ s) × (answer ≡ reply.Places (file_modules_of s path))
 
@@ -86,6 +93,7 @@ said {s} {t} {answer = answer} (asks_for_trait at path is grown told) = subst (�
 said {s} {t} {answer = answer} (asks_for_impl at number is grown told) = subst (λ (x : CommandValue). Says s x answer t) (sym is) tt
 said {s} {t} {answer = answer} (lists krate is same told) = subst (λ (x : CommandValue). Says s x answer t) (sym is) tt
 said {s} {t} {answer = answer} (names_all at is same told) = subst (λ (x : CommandValue). Says s x answer t) (sym is) (same, told)
+said {s} {t} {answer = answer} (looks_for_path at def ns prefix most is same told) = subst (λ (x : CommandValue). Says s x answer t) (sym is) (same, told)
 said {s} {t} {answer = answer} (lists_modules krate is same told) = subst (λ (x : CommandValue). Says s x answer t) (sym is) (same, told)
 said {s} {t} {answer = answer} (lists_file_modules path is same told) = subst (λ (x : CommandValue). Says s x answer t) (sym is) (same, told)
 
@@ -126,6 +134,15 @@ names_ok (Ok other) list told = let same : other ≡ list = cc told in cc
 names_ok (Err query_error.StalePlace) list told = absurd (let wrong : ⊥ = cc told in wrong)
 names_ok (Err query_error.UnknownPlace) list told = absurd (let wrong : ⊥ = cc told in wrong)
 names_ok (Err query_error.Memory) list told = absurd (let wrong : ⊥ = cc told in wrong)
+
+path_leads : {s : SessionState} {at : PlaceValue} {def : Definition} {ns : Namespace} {prefix : PathPrefix} {most : ℕ} (path : Path)
+    → AnswersPath s at def ns prefix most (reply.Path (Some path)) → LeadsTo s at def ns prefix most path
+path_leads {s} {at} {def} {ns} {prefix} {most} path (leads other stands told) =
+    let same : other ≡ path = cc told in subst (LeadsTo s at def ns prefix most) same stands
+path_leads path (finds_none told) = absurd (let wrong : ⊥ = cc told in wrong)
+path_leads path (refuses_all query_error.StalePlace refused told) = absurd (let wrong : ⊥ = cc told in wrong)
+path_leads path (refuses_all query_error.UnknownPlace refused told) = absurd (let wrong : ⊥ = cc told in wrong)
+path_leads path (refuses_all query_error.Memory refused told) = absurd (let wrong : ⊥ = cc told in wrong)
 
 modules_ok : (r : Result (List PlaceValue) ModulesError) (list : List PlaceValue) → reply.Places list ≡ modules_reply r → r ≡ Ok list
 modules_ok (Ok other) list told = let same : other ≡ list = cc told in cc
@@ -179,6 +196,13 @@ text_command text = record {
 
 names_command : (told : List BoundName) → IsOfCommand (reply.Names told)
 names_command told = record {
+  memory = λ e. (let wrong : ⊥ = cc e in wrong);
+  command = λ e. (let wrong : ⊥ = cc e in wrong);
+  long = λ e. (let wrong : ⊥ = cc e in wrong);
+}
+
+path_command : (told : Option Path) → IsOfCommand (reply.Path told)
+path_command told = record {
   memory = λ e. (let wrong : ⊥ = cc e in wrong);
   command = λ e. (let wrong : ⊥ = cc e in wrong);
   long = λ e. (let wrong : ⊥ = cc e in wrong);
@@ -290,6 +314,13 @@ module _ (n : ℕ) (old : MachineState) (lines : List (List ℕ)) (answers : Lis
         stays = call.after ∙ ap Some call.says.0;
         stands = names_ok (names_of call.from place) told call.says.1;
       }
+
+  pub paths_told : (place : PlaceValue) (def : Definition) (ns : Namespace) (prefix : PathPrefix) (most : ℕ) (path : Path)
+      → Gives lines n (path_to place def ns prefix most) → slice_get answers n ≡ Some (reply.Path (Some path))
+      → HoldsIn old lines answers new done n (λ s. LeadsTo s place def ns prefix most path)
+  paths_told place def ns prefix most path gives is =
+      let call = at_call (path_to place def ns prefix most) (reply.Path (Some path)) refl (path_command (Some path)) gives is in
+      record { session = call.from; is = call.before; stays = call.after ∙ ap Some call.says.0; stands = path_leads path call.says.1 }
 
   pub modules_told : (krate : Crate) (told : List PlaceValue) → Gives lines n (crate_modules krate) → slice_get answers n ≡ Some (reply.Places told)
       → HoldsIn old lines answers new done n (λ s. modules_of s krate ≡ Ok told)

@@ -31,7 +31,7 @@ use Rattle.hir_session_core.specs.HirSessionState.Due.{IsAskedBehind}
 use Rattle.hir_session_replies.specs.Replies.{query_reply}
 use Rattle.hir_session_machine.specs.Machine.{MachineState, first_state, Moves, AnswersCommand, AnswersLine}
 use Rattle.hir_session_machine.specs.Machine.Moves.{applies, refuses, refreshes, refreshes_partly, resolves, tells, shows, shows_none, dumps, dumps_none}
-use Rattle.hir_session_machine.specs.Machine.Moves.{asks_for_trait, asks_for_impl, lists, names_all, lists_modules, lists_file_modules}
+use Rattle.hir_session_machine.specs.Machine.Moves.{asks_for_trait, asks_for_impl, lists, names_all, looks_for_path, lists_modules, lists_file_modules}
 use Rattle.hir_session_machine.specs.Machine.AnswersCommand.{finds_no_memory, begins, refuses_session, comes_too_soon, comes_too_late, calls}
 use Rattle.hir_session_machine.specs.Machine.AnswersLine.{finds_no_memory_for_line, reads_no_command, carries_out}
 use Rattle.hir_session_machine.specs.AnsweredLines.{AnswersWithin, AnswersInput, AnswersLines}
@@ -42,7 +42,7 @@ use Rattle.hir_session_core.proofs.HirSessionAnswers.Differ.{IsSame, same_after_
 use Rattle.hir_session_machine.proofs.Histories.{after_input, begun_input, history_sound, one_value}
 use Rattle.hir_session_core.proofs.HirSessionAnswers.Stand.{stands}
 use Rattle.hir_session_machine.proofs.Telling.{told_within}
-use Rattle.hir_session_machine.proofs.Commands.{applied_at, begun_at, dump_told, file_modules_told, modules_told, names_told, refreshed_at, status_at}
+use Rattle.hir_session_machine.proofs.Commands.{applied_at, begun_at, dump_told, file_modules_told, modules_told, names_told, paths_told, refreshed_at, status_at}
 use Rattle.hir_session_machine.proofs.Commands.{tree_told}
 use Rattle.hir_session_machine.proofs.Listing.{impl_within, trait_within}
 use Rattle.hir_session_core.proofs.HirSessionAnswers.Naming.{names_stand}
@@ -88,6 +88,7 @@ answered_by_call asks (asks_for_trait at query is_trait grown told) = absurd (le
 answered_by_call asks (asks_for_impl at number is_impl grown told) = absurd (let wrong : ⊥ = cc in wrong)
 answered_by_call asks (lists krate is_list same told) = absurd (let wrong : ⊥ = cc in wrong)
 answered_by_call asks (names_all at is_names same told) = absurd (let wrong : ⊥ = cc in wrong)
+answered_by_call asks (looks_for_path at def ns prefix most is_path same told) = absurd (let wrong : ⊥ = cc in wrong)
 answered_by_call asks (lists_modules krate is_modules same told) = absurd (let wrong : ⊥ = cc in wrong)
 answered_by_call asks (lists_file_modules page is_modules same told) = absurd (let wrong : ⊥ = cc in wrong)
 
@@ -144,6 +145,8 @@ kept_by_call read same (asks_for_trait at path is_trait grown told) = inl (same_
 kept_by_call read same (asks_for_impl at number is_impl grown told) = inl (same_once_grown same grown)
 kept_by_call {from} {k = k} read same (lists krate is_list still told) = inl (subst (λ (x : SessionState). IsSame from x k) (sym still) same)
 kept_by_call {from} {k = k} read same (names_all at is_names still told) = inl (subst (λ (x : SessionState). IsSame from x k) (sym still) same)
+kept_by_call {from} {k = k} read same (looks_for_path at def ns prefix most is_path still told) =
+    inl (subst (λ (x : SessionState). IsSame from x k) (sym still) same)
 kept_by_call {from} {k = k} read same (lists_modules krate is_modules still told) = inl (subst (λ (x : SessionState). IsSame from x k) (sym still) same)
 kept_by_call {from} {k = k} read same (lists_file_modules path is_modules still told) = inl (subst (λ (x : SessionState). IsSame from x k) (sym still) same)
 
@@ -438,6 +441,7 @@ headline runs paths leads lines answers last done = record {
   shows_dump = λ n place text gives is. dump_told n first_state lines answers last done place text gives is;
   shows_tree = λ n krate path text gives is. tree_told n first_state lines answers last done krate path text gives is;
   tells_names = λ n place told gives is. names_at runs n place told first_state lines answers last done good_first gives is;
+  finds_paths = λ n place def ns prefix most path gives is. paths_told n first_state lines answers last done place def ns prefix most path gives is;
   lists_modules = λ n krate told gives is. modules_told n first_state lines answers last done krate told gives is;
   lists_file_modules = λ n path told gives is. file_modules_told n first_state lines answers last done path told gives is;
   begins_session = λ n inputs gives is. begun_at n first_state lines answers last done inputs gives is;

@@ -13,7 +13,7 @@ use Rattle.hir_session_core.proofs.HirSessionState.Truth.{on_bool}
 use Rattle.hir_session_core.proofs.HirSessionSources.Start.{begins_sound}
 use Rattle.hir_session_machine.specs.Machine.{MachineState, Moves, AnswersCommand, AnswersLine}
 use Rattle.hir_session_machine.specs.Machine.Moves.{applies, refuses, refreshes, refreshes_partly, resolves, tells, shows, shows_none, dumps, dumps_none}
-use Rattle.hir_session_machine.specs.Machine.Moves.{asks_for_trait, asks_for_impl, lists, names_all, lists_modules, lists_file_modules}
+use Rattle.hir_session_machine.specs.Machine.Moves.{asks_for_trait, asks_for_impl, lists, names_all, looks_for_path, lists_modules, lists_file_modules}
 use Rattle.hir_session_machine.specs.Machine.AnswersCommand.{finds_no_memory, begins, refuses_session, comes_too_soon, comes_too_late, calls}
 use Rattle.hir_session_machine.specs.Machine.AnswersLine.{finds_no_memory_for_line, reads_no_command, carries_out}
 use Rattle.hir_lines.specs.declared.open_line.TheConstants.{LINE_LIMIT}
@@ -38,6 +38,7 @@ after_call h (asks_for_trait at path is_trait grown told) = numbers _ _ h grown
 after_call h (asks_for_impl at number is_impl grown told) = numbers _ _ h grown
 after_call {from} h (lists krate is_list same told) = subst (λ (x : SessionState). History from x) (sym same) h
 after_call {from} h (names_all at is_names same told) = subst (λ (x : SessionState). History from x) (sym same) h
+after_call {from} h (looks_for_path at def ns prefix most is_path same told) = subst (λ (x : SessionState). History from x) (sym same) h
 after_call {from} h (lists_modules krate is_modules same told) = subst (λ (x : SessionState). History from x) (sym same) h
 after_call {from} h (lists_file_modules path is_modules same told) = subst (λ (x : SessionState). History from x) (sym same) h
 

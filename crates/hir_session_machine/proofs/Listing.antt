@@ -20,7 +20,7 @@ use Rattle.hir_session_machine.specs.Machine.{MachineState, AnswersCommand, Answ
 use Rattle.hir_session_machine.specs.Machine.{AnswersImpl as of_impl}
 use Rattle.hir_session_machine.specs.Machine.{AnswersTrait as of_trait}
 use Rattle.hir_session_machine.specs.Machine.Moves.{applies, refuses, refreshes, refreshes_partly, resolves, tells, shows, shows_none, dumps, dumps_none}
-use Rattle.hir_session_machine.specs.Machine.Moves.{asks_for_trait, asks_for_impl, lists, names_all, lists_modules, lists_file_modules}
+use Rattle.hir_session_machine.specs.Machine.Moves.{asks_for_trait, asks_for_impl, lists, names_all, looks_for_path, lists_modules, lists_file_modules}
 use Rattle.hir_session_machine.specs.Machine.AnswersCommand.{finds_no_memory, begins, refuses_session, comes_too_soon, comes_too_late, calls}
 use Rattle.hir_session_machine.specs.Machine.AnswersLine.{finds_no_memory_for_line, reads_no_command, carries_out}
 use Rattle.hir_session_machine.specs.AnsweredLines.{AnswersWithin}
@@ -81,6 +81,7 @@ trait_call {s} {t} {place = place} {path = path} {told = told} asks (asks_for_tr
 trait_call asks (asks_for_impl at other is_impl grown answers) = absurd (let wrong : ⊥ = cc in wrong)
 trait_call asks (lists krate is_list still same) = absurd (let wrong : ⊥ = cc in wrong)
 trait_call asks (names_all at is_names still same) = absurd (let wrong : ⊥ = cc in wrong)
+trait_call asks (looks_for_path at def ns prefix most is_path still same) = absurd (let wrong : ⊥ = cc in wrong)
 trait_call asks (lists_modules krate is_modules still same) = absurd (let wrong : ⊥ = cc in wrong)
 trait_call asks (lists_file_modules page is_modules still same) = absurd (let wrong : ⊥ = cc in wrong)
 
@@ -163,6 +164,7 @@ impl_call {s} {t} {place = place} {number = number} {told = told} asks (asks_for
     (subst (λ (x : ℕ). AnswersImpl s at x (reply.Items told) t) is_number answers))
 impl_call asks (lists krate is_list still same) = absurd (let wrong : ⊥ = cc in wrong)
 impl_call asks (names_all at is_names still same) = absurd (let wrong : ⊥ = cc in wrong)
+impl_call asks (looks_for_path at def ns prefix most is_path still same) = absurd (let wrong : ⊥ = cc in wrong)
 impl_call asks (lists_modules krate is_modules still same) = absurd (let wrong : ⊥ = cc in wrong)
 impl_call asks (lists_file_modules page is_modules still same) = absurd (let wrong : ⊥ = cc in wrong)
 

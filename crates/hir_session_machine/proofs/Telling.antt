@@ -12,7 +12,7 @@ use Rattle.hir_session_core.specs.HirSessionAnswers.Diagnostics.{diagnostics_of}
 use Rattle.hir_session_replies.specs.Replies.{diagnostics_reply}
 use Rattle.hir_session_machine.specs.Machine.{MachineState, Moves, AnswersCommand, AnswersLine}
 use Rattle.hir_session_machine.specs.Machine.Moves.{applies, refuses, refreshes, refreshes_partly, resolves, tells, shows, shows_none, dumps, dumps_none}
-use Rattle.hir_session_machine.specs.Machine.Moves.{asks_for_trait, asks_for_impl, lists, names_all, lists_modules, lists_file_modules}
+use Rattle.hir_session_machine.specs.Machine.Moves.{asks_for_trait, asks_for_impl, lists, names_all, looks_for_path, lists_modules, lists_file_modules}
 use Rattle.hir_session_machine.specs.Machine.AnswersCommand.{finds_no_memory, begins, refuses_session, comes_too_soon, comes_too_late, calls}
 use Rattle.hir_session_machine.specs.Machine.AnswersLine.{finds_no_memory_for_line, reads_no_command, carries_out}
 use Rattle.hir_session_machine.specs.AnsweredLines.{AnswersWithin}
@@ -47,6 +47,7 @@ told_by_call asks (asks_for_impl at number is_impl grown told) = absurd (let wro
 told_by_call {s} {krate = krate} {list = list} asks (lists other is_list same told) =
     let is_crate : other ≡ krate = cc in told_ok (diagnostics_of s krate) list (rw is_crate at told)
 told_by_call asks (names_all at is_names same told) = absurd (let wrong : ⊥ = cc in wrong)
+told_by_call asks (looks_for_path at def ns prefix most is_path same told) = absurd (let wrong : ⊥ = cc in wrong)
 told_by_call asks (lists_modules other is_modules same told) = absurd (let wrong : ⊥ = cc in wrong)
 told_by_call asks (lists_file_modules path is_modules same told) = absurd (let wrong : ⊥ = cc in wrong)
 

@@ -7,7 +7,11 @@ use Rattle.hir_session_core.specs.HirIds.declared.ids.Crate.{Crate}
 use Rattle.hir_session_core.specs.HirIds.declared.ids.ModuleId.{ModuleId}
 use Rattle.hir_session_core.specs.HirCollectorRules.declared.source_database.Key.{Key}
 use Rattle.hir_session_core.specs.HirMessages.CommandValue.{CommandValue, CrateInputValue, crate_modules, crates, diagnostics}
-use Rattle.hir_session_core.specs.HirMessages.CommandValue.{dump, edit, file_modules, impl_items, names}
+use Rattle.hir_session_core.specs.HirMessages.CommandValue.{dump, edit, file_modules, impl_items, names, path_to}
+use Rattle.hir_session_core.specs.HirMessages.declared.answer.Definition.{Definition}
+use Rattle.hir_session_core.specs.HirMessages.declared.command.Namespace.{Namespace}
+use Rattle.hir_session_core.specs.HirMessages.declared.command.PathPrefix.{PathPrefix}
+use Rattle.hir_session_core.specs.HirSessionAnswers.PathsTo.{LeadsTo}
 use Rattle.hir_session_core.specs.HirMessages.CommandValue.{refresh, resolve, status, trait_items, tree}
 use Rattle.hir_wire.specs.Commands.{reading_of}
 use Rattle.hir_session_core.specs.HirMessages.Edits.{EditValue}
@@ -197,6 +201,10 @@ pub record Headline (lines : List (List ℕ)) (answers : List Reply) (last : Mac
   -- so is what the names of a module stand for, over a map that the present sources come to
   pub tells_names : (n : ℕ) (place : PlaceValue) (told : List BoundName) → Gives lines n (names place) → slice_get answers n ≡ Some (reply.Names told)
       → HoldsIn first_state lines answers last done n (λ s. (names_of s place ≡ Ok told) × NamesStand s place told)
+  -- a path that is told leads to the definition
+  pub finds_paths : (n : ℕ) (place : PlaceValue) (def : Definition) (ns : Namespace) (prefix : PathPrefix) (most : ℕ) (path : Path)
+      → Gives lines n (path_to place def ns prefix most) → slice_get answers n ≡ Some (reply.Path (Some path))
+      → HoldsIn first_state lines answers last done n (λ s. LeadsTo s place def ns prefix most path)
   -- so are the modules of a crate, and those that a file is
   pub lists_modules : (n : ℕ) (krate : Crate) (told : List PlaceValue) → Gives lines n (crate_modules krate) → slice_get answers n
       ≡ Some (reply.Places told)

@@ -9,8 +9,11 @@ use Rattle.hir_session_core.specs.HirIds.declared.ids.TraitId.{TraitId}
 use Rattle.hir_session_core.specs.HirMessages.Edits.{EditValue}
 use Rattle.hir_session_core.specs.HirMessages.CommandValue.{CommandValue, CrateInputValue, crate_modules, crates, diagnostics}
 use Rattle.hir_session_core.specs.HirMessages.CommandValue.{dump, edit, file_modules, impl_items, names, refresh}
-use Rattle.hir_session_core.specs.HirMessages.CommandValue.{resolve, status, trait_items, tree}
+use Rattle.hir_session_core.specs.HirMessages.CommandValue.{path_to, resolve, status, trait_items, tree}
 use Rattle.hir_wire.specs.Commands.{reading_of}
+use Rattle.hir_session_core.specs.HirMessages.declared.answer.Definition.{Definition}
+use Rattle.hir_session_core.specs.HirMessages.declared.command.Namespace.{Namespace}
+use Rattle.hir_session_core.specs.HirMessages.declared.command.PathPrefix.{PathPrefix}
 use Rattle.hir_session_core.specs.HirMessages.declared.items.Items.{Items}
 use Rattle.hir_session_core.specs.HirMessages.declared.command.MacroStyle.{MacroStyle}
 use Rattle.hir_wire.specs.declared.read_error.ReadError.{ReadError}
@@ -37,6 +40,7 @@ use Rattle.hir_session_core.specs.HirSessionAnswers.Diagnostics.{diagnostics_of}
 use Rattle.hir_session_core.specs.HirSessionAnswers.Dumps.{dump_at}
 use Rattle.hir_session_core.specs.HirSessionAnswers.Modules.{file_modules_of, modules_of}
 use Rattle.hir_session_core.specs.HirSessionAnswers.Names.{names_of}
+use Rattle.hir_session_core.specs.HirSessionAnswers.PathsTo.{AreRefused, LeadsTo}
 use Rattle.hir_session_core.specs.HirSessionAnswers.AssocItems.{impl_at, trait_at, ListsImpl, ListsTrait, RefusesImpl, RefusesTrait}
 use Rattle.hir_session_replies.specs.Replies.{new_reply, edit_reply, refresh_reply, query_error_reply, query_reply, trait_items_reply, impl_items_reply}
 use Rattle.hir_session_replies.specs.Replies.{tree_text_reply, diagnostics_reply, modules_reply, names_reply, read_reply}
@@ -62,6 +66,17 @@ pub data AnswersImpl (s : SessionState) (at : PlaceValue) (number : ℕ) (answer
       → AnswersImpl s at number answer t
   -- there is no impl of that number, and nothing changes
   refuses : (why : ImplItemsError) → impl_at s at number ≡ Err why → t ≡ s → answer ≡ impl_items_reply why → AnswersImpl s at number answer t
+
+-- ---- paths to definitions
+
+-- what is told of a path to a definition
+pub data AnswersPath (s : SessionState) (at : PlaceValue) (def : Definition) (ns : Namespace) (prefix : PathPrefix) (most : ℕ) (answer : Reply) : Type 0 where
+  -- it leads there
+  leads : (path : Path) → LeadsTo s at def ns prefix most path → answer ≡ reply.Path (Some path) → AnswersPath s at def ns prefix most answer
+  -- none is found
+  finds_none : answer ≡ reply.Path None → AnswersPath s at def ns prefix most answer
+  -- no path is answered at the place
+  refuses_all : (why : QueryError) → AreRefused s at why → answer ≡ query_error_reply why → AnswersPath s at def ns prefix most answer
 
 -- ---- one call
 
@@ -102,6 +117,9 @@ pub data Moves (s : SessionState) (c : CommandValue) (answer : Reply) (t : Sessi
   lists : (krate : Crate) → c ≡ diagnostics krate → t ≡ s → answer ≡ diagnostics_reply (diagnostics_of s krate) → Moves s c answer t
   -- what the names of a module stand for is told
   names_all : (at : PlaceValue) → c ≡ names at → t ≡ s → answer ≡ names_reply (names_of s at) → Moves s c answer t
+  -- a path to a definition is looked for
+  looks_for_path : (at : PlaceValue) (def : Definition) (ns : Namespace) (prefix : PathPrefix) (most : ℕ) → c ≡ path_to at def ns prefix most → t ≡ s
+      → AnswersPath s at def ns prefix most answer → Moves s c answer t
   -- the modules of a crate are listed
   lists_modules : (krate : Crate) → c ≡ crate_modules krate → t ≡ s → answer ≡ modules_reply (modules_of s krate) → Moves s c answer t
   -- and those that a file is
@@ -130,6 +148,7 @@ makes_session (dump at) = false
 makes_session (tree krate path) = false
 makes_session (diagnostics krate) = false
 makes_session (names at) = false
+makes_session (path_to at def ns prefix most) = false
 makes_session (crate_modules krate) = false
 makes_session (file_modules path) = false
 

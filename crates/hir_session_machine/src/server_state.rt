@@ -1,6 +1,6 @@
 //! What answers lines: a session, or none before the first that is made.
 ghost use Rattle.std.specs.Prelude.{◌≡◌, map, false, None, Some, Option};
-ghost use Rattle.hir_session_core.specs.HirMessages.CommandValue.{command_view, crate_input_view, crates as makes, edit as edits, refresh as refreshes, resolve as resolves, tree as asks_for_tree, diagnostics as asks_for_diagnostics, dump as asks_for_dump, trait_items as asks_for_trait, impl_items as asks_for_impl, names as asks_for_names, crate_modules as asks_for_modules, file_modules as asks_for_file_modules};
+ghost use Rattle.hir_session_core.specs.HirMessages.CommandValue.{command_view, crate_input_view, crates as makes, edit as edits, refresh as refreshes, resolve as resolves, tree as asks_for_tree, diagnostics as asks_for_diagnostics, dump as asks_for_dump, trait_items as asks_for_trait, impl_items as asks_for_impl, names as asks_for_names, path_to as asks_for_path, crate_modules as asks_for_modules, file_modules as asks_for_file_modules};
 ghost use Rattle.hir_session_core.specs.HirMessages.Edits.{edit_view};
 ghost use Rattle.hir_wire.specs.Replies.{is_fixed};
 ghost use Rattle.hir_session_core.specs.HirMessages.declared.reply.Reply.TheVariants as reply;
@@ -16,7 +16,8 @@ use hir_session_replies::replies::{
     edit_error_reply, new_error_reply, refresh_error_reply, reply_to_diagnostics, reply_to_impl,
     reply_to_line, reply_to_modules, reply_to_query, reply_to_trait, reply_to_tree,
 };
-use hir_wire::command::{Command, CrateInput, MacroStyle, Shadow};
+use hir_wire::answer::Definition;
+use hir_wire::command::{Command, CrateInput, MacroStyle, Namespace, PathPrefix, Shadow};
 use hir_wire::edit::Edit;
 use hir_wire::read_command;
 use hir_wire::reply::{Places, Reply};
@@ -145,6 +146,25 @@ fn named(alloc: Global, session: &Session, at: &Place) -> Reply
     }
 }
 
+/// A shortest path that names a definition.
+fn path_found(
+    alloc: Global,
+    session: &Session,
+    at: &Place,
+    def: &Definition,
+    namespace: Namespace,
+    prefix: PathPrefix,
+    most: u32,
+) -> Reply
+    ensures step { AnswersCommand (Some session.now) (asks_for_path at.now def.now namespace prefix most) result (Some session.now) }
+{
+    match session.path_to(alloc, at, def, namespace, prefix, most) {
+        Ok(Some(path)) => Reply::Path(Some(path)),
+        Ok(None) => Reply::Path(None),
+        Err(error) => reply_to_query(error),
+    }
+}
+
 /// The modules of a crate.
 fn modules_listed(alloc: Global, session: &Session, krate: Crate) -> Reply
     ensures step { AnswersCommand (Some session.now) (asks_for_modules krate) result (Some session.now) }
@@ -187,6 +207,13 @@ fn called<C: CollectDefs>(alloc: Global, session: &mut Session, command: Command
         Command::ImplItems { at, number } => impl_listed(alloc, session, &at, number),
         Command::Dump { at } => dumped(alloc, session, &at),
         Command::Names { at } => named(alloc, session, &at),
+        Command::PathTo {
+            at,
+            def,
+            namespace,
+            prefix,
+            most,
+        } => path_found(alloc, session, &at, &def, namespace, prefix, most),
         Command::CrateModules { krate } => modules_listed(alloc, session, krate),
         Command::FileModules { file } => file_modules_listed(alloc, session, &file),
         Command::Status { at } => Reply::Status(session.status(&at)),

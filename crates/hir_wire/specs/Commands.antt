@@ -1,5 +1,5 @@
 -- Which command does a line mean?
-use Rattle.std.specs.Prelude.{ℕ, Bool, List, [], true, false, Option, Some, None, Ok, Err, if◌then◌else◌, codes}
+use Rattle.std.specs.Prelude.{ℕ, ◌&&◌, nat_le, Bool, List, [], true, false, Option, Some, None, Ok, Err, if◌then◌else◌, codes}
 use Rattle.std.specs.Str.{bytes_eq, is_utf8}
 use Rattle.serde_json.specs.Data.{Data, null, boolean, number, string, array, object, Members}
 use Rattle.serde_json.specs.Read.{read}
@@ -7,7 +7,9 @@ use Rattle.serde_json.specs.Written.{has_float}
 use Rattle.hir_ids.specs.declared.edition.Edition.{Edition}
 use Rattle.hir_ids.specs.declared.edition.Edition.TheVariants as edition
 use Rattle.hir_item_tree.specs.Attributes.{no_attributes}
-use Rattle.hir_wire.specs.Types.{Dependency, MacroStyle, Shadow}
+use Rattle.hir_wire.specs.Types.{Dependency, MacroStyle, Namespace, PathPrefix, Shadow}
+use Rattle.hir_wire.specs.Types.namespace
+use Rattle.hir_wire.specs.Types.prefix
 use Rattle.hir_wire.specs.Types.shadow
 use Rattle.hir_wire.specs.Types.style
 use Rattle.hir_wire.specs.declared.read.line.Verb.{Verb}
@@ -15,9 +17,10 @@ use Rattle.hir_wire.specs.declared.read.line.Verb.TheVariants as verb
 use Rattle.hir_wire.specs.declared.read_error.ReadError.TheVariants.{Json, Command}
 use Rattle.hir_wire.specs.Attributes.{attributes_of}
 use Rattle.hir_messages.specs.CommandValue.{CommandValue, CrateInputValue, crate_modules, crates, data_of_input, diagnostics, dump, edit, file_modules}
-use Rattle.hir_messages.specs.CommandValue.{impl_items, names, refresh, resolve, status, trait_items, tree}
+use Rattle.hir_messages.specs.CommandValue.{impl_items, names, path_to, refresh, resolve, status, trait_items, tree}
 use Rattle.hir_wire.specs.Conditions.{option_of}
 use Rattle.hir_messages.specs.Edits.{set_file, remove_file, set_block, remove_block, set_expansion, remove_expansion, set_crate}
+use Rattle.hir_wire.specs.Definitions.{definition_of}
 use Rattle.hir_wire.specs.Expansions.{call_key_of, entry_in, inner_in, key_of}
 use Rattle.hir_wire.specs.Nodes.{source_of}
 use Rattle.hir_wire.specs.Paths.{name_of, path_of, file_of, bool_of, crate_of, number_of, place_of, block_place_of}
@@ -75,6 +78,28 @@ style_of_word word =
     if bytes_eq word (codes "bang") then Some (Some style.Bang) else
     (if bytes_eq word (codes "attr") then Some (Some style.Attr) else None)
 
+-- the namespace that a word stands for
+abbrev pub namespace_of_word : List ℕ → Option Namespace
+namespace_of_word word =
+    if bytes_eq word (codes "types") then Some namespace.Types else
+    (if bytes_eq word (codes "values") then Some namespace.Values else
+    (if bytes_eq word (codes "macros") then Some namespace.Macros else None))
+
+-- the way of beginning a path that a word stands for
+abbrev pub prefix_of_word : List ℕ → Option PathPrefix
+prefix_of_word word =
+    if bytes_eq word (codes "plain") then Some prefix.Plain else
+    (if bytes_eq word (codes "crate") then Some prefix.Crate else None)
+
+-- a number of segments: at least one, and no more than a path may have
+abbrev pub segments_within : Reading ℕ → Reading ℕ
+segments_within (Err e) = Err e
+segments_within (Ok n) = if nat_le 1 n && nat_le n 64 then Ok n else Err Command
+
+-- a value as a number of segments
+abbrev pub most_of : Data → Reading ℕ
+most_of d = segments_within (number_of d)
+
 -- the command that a word stands for
 abbrev pub verb_of_word : List ℕ → Option Verb
 verb_of_word word =
@@ -95,7 +120,8 @@ verb_of_word word =
     (if bytes_eq word (codes "diagnostics") then Some verb.Diagnostics else
     (if bytes_eq word (codes "names") then Some verb.Names else
     (if bytes_eq word (codes "modules") then Some verb.Modules else
-    (if bytes_eq word (codes "tree") then Some verb.Tree else None)))))))))))))))))
+    (if bytes_eq word (codes "path to") then Some verb.PathTo else
+    (if bytes_eq word (codes "tree") then Some verb.Tree else None))))))))))))))))))
 
 -- the file and the source of an edit
 unfoldable pub set_file_in : Members → Reading CommandValue
@@ -152,6 +178,14 @@ trait_items_in ms = made (λ p. trait_items p.0 p.1) (paired (required place_of 
 unfoldable pub impl_items_in : Members → Reading CommandValue
 impl_items_in ms = made (λ p. impl_items p.0 p.1) (paired (required place_of (codes "at") ms) (required number_of (codes "impl") ms))
 
+-- the definition for which a path is looked for, and how
+unfoldable pub path_to_in : Members → Reading CommandValue
+path_to_in ms =
+    made (λ p. path_to p.0.0 p.0.1 p.1.0 p.1.1.0 p.1.1.1)
+    (paired (paired (required place_of (codes "at") ms) (required definition_of (codes "def") ms))
+    (paired (required (word_as namespace_of_word) (codes "ns") ms)
+    (paired (optional prefix.Plain (word_as prefix_of_word) (codes "prefix") ms) (optional 8 most_of (codes "most") ms))))
+
 -- the fields of a command
 abbrev pub fields_of : Verb → Members → Reading CommandValue
 fields_of verb.Crates ms = made crates (required (list_of crate_input_of) (codes "crates") ms)
@@ -171,6 +205,7 @@ fields_of verb.Status ms = made status (required place_of (codes "at") ms)
 fields_of verb.Diagnostics ms = made diagnostics (required crate_of (codes "crate") ms)
 fields_of verb.Names ms = made names (required place_of (codes "at") ms)
 fields_of verb.Modules ms = modules_in ms
+fields_of verb.PathTo ms = path_to_in ms
 fields_of verb.Tree ms = tree_in ms
 
 -- a command, once its word is read

@@ -15,6 +15,7 @@ pub mod Nodes
 -- ---- Commands: what a line asks for
 pub use Rattle.hir_messages.specs.Edits
 pub mod Expansions
+pub mod Definitions
 pub use Rattle.hir_messages.specs.CommandValue
 pub mod Commands
 -- ---- Replies: the text of a reply

@@ -6,6 +6,7 @@ use Rattle.serde_json.specs.Written.{compact_text}
 use Rattle.hir_ids.specs.BuiltinType.{builtin_text}
 use Rattle.hir_base.specs.Display.{path_shown}
 use Rattle.hir_base.specs.Limit.{limit_text}
+use Rattle.hir_base.specs.ModPath.{Path}
 use Rattle.hir_base.specs.Place.{PlaceValue}
 use Rattle.hir_base.specs.declared.place.PlaceElement.{PlaceElement}
 use Rattle.hir_ids.specs.declared.ast_id.SyntaxId.{SyntaxId}
@@ -177,6 +178,12 @@ bound_name_data bound =
     object (member (codes "macros") (or_null item_data bound.macros) (member (codes "name") (string (name_word bound.name))
     (member (codes "types") (or_null item_data bound.types) (member (codes "values") (or_null item_data bound.values) no_members))))
 
+-- ---- paths
+
+-- a path, with each name as it is handed in
+abbrev pub path_data : Path → Data
+path_data path = string (path_shown None path)
+
 -- ---- replies
 
 -- what went well
@@ -196,6 +203,7 @@ reply_data (reply.Status status) = success (string (status_word status))
 reply_data (reply.Diagnostics diagnostics) = success (array (items_of (map diagnostic_data diagnostics)))
 reply_data (reply.Items held) = success (items_data held)
 reply_data (reply.Names names) = success (array (items_of (map bound_name_data names)))
+reply_data (reply.Path path) = success (or_null path_data path)
 reply_data (reply.Text text) = success (string (string_bytes text))
 reply_data reply.Json = refusal (codes "json") no_members
 reply_data reply.Command = refusal (codes "command") no_members
@@ -225,6 +233,7 @@ is_fixed (reply.Status status) = true
 is_fixed (reply.Diagnostics diagnostics) = false
 is_fixed (reply.Items held) = false
 is_fixed (reply.Names names) = false
+is_fixed (reply.Path path) = false
 is_fixed (reply.Text text) = false
 is_fixed reply.Json = true
 is_fixed reply.Command = true

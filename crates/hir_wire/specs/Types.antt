@@ -23,6 +23,10 @@ pub use Rattle.hir_messages.specs.declared.command.CrateInput.{CrateInput}
 pub use Rattle.hir_messages.specs.declared.command.Dependency.{Dependency}
 pub use Rattle.hir_messages.specs.declared.command.MacroStyle.{MacroStyle}
 pub use Rattle.hir_messages.specs.declared.command.MacroStyle.TheVariants as style
+pub use Rattle.hir_messages.specs.declared.command.Namespace.{Namespace}
+pub use Rattle.hir_messages.specs.declared.command.Namespace.TheVariants as namespace
+pub use Rattle.hir_messages.specs.declared.command.PathPrefix.{PathPrefix}
+pub use Rattle.hir_messages.specs.declared.command.PathPrefix.TheVariants as prefix
 pub use Rattle.hir_messages.specs.declared.command.Shadow.{Shadow}
 pub use Rattle.hir_messages.specs.declared.command.Shadow.TheVariants as shadow
 pub use Rattle.hir_messages.specs.declared.diagnostic.CalledItem.{CalledItem}

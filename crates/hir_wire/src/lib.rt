@@ -12,7 +12,9 @@ pub use answer::{
     Answer, AnswerItem, AnswerVisibility, Definition, ImportOrigin, ImportSource, ItemSource,
     SourceCall, SourceCallKind, SourceCalls, SourceItem, SourceKind, SourceRoot,
 };
-pub use command::{Command, CrateInput, Dependencies, Dependency, MacroStyle, Shadow};
+pub use command::{
+    Command, CrateInput, Dependencies, Dependency, MacroStyle, Namespace, PathPrefix, Shadow,
+};
 pub use diagnostic::{CalledItem, Diagnostic, DiagnosticKind, Diagnostics, Texts};
 pub use edit::{CallKey, Edit, ExpansionEntry};
 pub use hir_base::place::{BlockPlace, Place, PlaceElement};

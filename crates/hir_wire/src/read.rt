@@ -4,6 +4,7 @@ pub mod adt;
 pub mod attribute;
 pub mod cfg;
 pub mod crates;
+pub mod definition;
 pub mod expansion;
 pub mod item;
 pub mod line;

@@ -17,7 +17,7 @@ use hir_tables::Tables;
 use std::alloc::{AllocError, Global};
 
 /// The crate of what holds an item.
-fn crate_at(container: ItemContainerId) -> Crate
+pub fn crate_at(container: ItemContainerId) -> Crate
     ensures value { result ≡ crate_of container }
 {
     match container {

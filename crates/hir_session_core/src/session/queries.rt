@@ -1,5 +1,5 @@
 //! What a session is asked.
-ghost use Rattle.std.specs.Prelude.{◌≡◌, ◌++◌, ◌⊎◌, IfOk, IfErr, OnOk, Ok, Err, option_map, string_bytes};
+ghost use Rattle.std.specs.Prelude.{◌≡◌, ◌++◌, ◌⊎◌, IfOk, IfErr, IfSome, OnOk, Ok, Err, option_map, string_bytes};
 ghost use Rattle.std.specs.Option.{option_and_then};
 ghost use Rattle.hir_session_state.specs.HirIds.Refusal.{Gives};
 ghost use Rattle.hir_session_state.specs.HirItemTree.Source.{source_view};
@@ -19,6 +19,7 @@ ghost use Rattle.hir_session_answers.specs.TreeText.{tree_text_of};
 ghost use Rattle.hir_session_answers.specs.Modules.{file_modules_of, modules_in, modules_of};
 ghost use Rattle.hir_session_answers.specs.Names.{names_kept, names_of};
 ghost use Rattle.hir_session_answers.specs.NamesStand.{NamesStand};
+ghost use Rattle.hir_session_answers.specs.PathsTo.{AreRefused, LeadsTo};
 
 use super::Session;
 use hir_base::file_path::FilePath;
@@ -30,6 +31,7 @@ use hir_session_answers::answers::answer_at;
 use hir_session_answers::diagnostics::diagnostics_at;
 use hir_session_answers::modules::list_modules;
 use hir_session_answers::names::names_at;
+use hir_session_answers::paths::{fits, names_definition, path_at};
 use hir_session_answers::standing::{PlaceStanding, standing_at};
 use hir_session_sources::crate_info::CrateInfo;
 use hir_session_sources::files::Files;
@@ -37,8 +39,8 @@ use hir_session_state::error::{DiagnosticsError, ModulesError, QueryError, TreeT
 use hir_session_state::hir_def_map::def_maps::DefMaps;
 use hir_session_state::hir_def_map::nameres::DefMap;
 use hir_session_state::hir_def_map::world::part::WorldPart;
-use hir_session_state::hir_messages::answer::Answer;
-use hir_session_state::hir_messages::command::{MacroStyle, Shadow};
+use hir_session_state::hir_messages::answer::{Answer, Definition};
+use hir_session_state::hir_messages::command::{MacroStyle, Namespace, PathPrefix, Shadow};
 use hir_session_state::hir_messages::diagnostic::Diagnostics;
 use hir_session_state::hir_messages::names::BoundNames;
 use hir_session_state::hir_messages::reply::{Places, Status};
@@ -206,6 +208,91 @@ impl Session {
     {
         match self.status(place) {
             Status::Current => self.names_kept(alloc, place),
+            Status::Stale => Err(QueryError::StalePlace),
+            Status::Unknown => Err(QueryError::UnknownPlace),
+        }
+    }
+
+    /// A path that is looked for to name a definition, over what is kept.
+    fn path_kept(
+        &self,
+        alloc: Global,
+        place: &Place,
+        definition: &Definition,
+        namespace: Namespace,
+        prefix: PathPrefix,
+        most: u32,
+    ) -> Result<Option<ModPath>, AllocError> {
+        let Some(at) = self.standing(place).module() else {
+            return Ok(None);
+        };
+        let Some(found) = self.kept.get(at.map) else {
+            return Ok(None);
+        };
+        let Some(transitive) = self.inputs.crates().transitive_dependencies(at.map.krate) else {
+            return Ok(None);
+        };
+        let read = WorldPart::among(self.kept.world(), transitive, found.holders);
+        let maps = DefMaps::new(read, found.map);
+        path_at(
+            alloc,
+            &self.tables,
+            &maps,
+            found.local,
+            at,
+            definition,
+            namespace,
+            prefix,
+            most,
+        )
+    }
+
+    /// A path, where it leads to a definition from the module that a place names, begins as it is to, and has no more than so many
+    /// segments.
+    fn leading(
+        &self,
+        alloc: Global,
+        place: &Place,
+        definition: &Definition,
+        namespace: Namespace,
+        prefix: PathPrefix,
+        most: u32,
+        path: ModPath,
+    ) -> Result<Option<ModPath>, QueryError>
+        ensures found { IfOk result (λ found. IfSome found (LeadsTo self.now place.now definition.now namespace prefix most)) }
+        ensures refused { IfErr result (λ e. IsQueryMemory e ⊎ AreRefused self.now place.now e) }
+    {
+        let answer = self.resolve_path(alloc, place, &path, Shadow::Other, None)?;
+        if fits(&path, prefix, most) && names_definition(namespace, &answer, definition) {
+            Ok(Some(path))
+        } else {
+            Ok(None)
+        }
+    }
+
+    /// A shortest path that names a definition in a namespace, from the module that a place names, of at most so many segments
+    /// (and never more than 64); None where there is none.
+    pub fn path_to(
+        &self,
+        alloc: Global,
+        place: &Place,
+        definition: &Definition,
+        namespace: Namespace,
+        prefix: PathPrefix,
+        most: u32,
+    ) -> Result<Option<ModPath>, QueryError>
+        ensures found { IfOk result (λ found. IfSome found (LeadsTo self.now place.now definition.now namespace prefix most)) }
+        ensures refused { IfErr result (λ e. IsQueryMemory e ⊎ AreRefused self.now place.now e) }
+    {
+        match self.status(place) {
+            Status::Current => {
+                match self.path_kept(alloc, place, definition, namespace, prefix, most)? {
+                    Some(path) => self.leading(
+                        alloc, place, definition, namespace, prefix, most, path,
+                    ),
+                    None => Ok(None),
+                }
+            }
             Status::Stale => Err(QueryError::StalePlace),
             Status::Unknown => Err(QueryError::UnknownPlace),
         }

@@ -4,17 +4,18 @@ ghost use Rattle.serde_json.specs.View.{view, members_view};
 ghost use Rattle.hir_messages.specs.CommandValue.{command_view, crate_modules, file_modules};
 ghost use Rattle.hir_wire.specs.Paths.{crate_of, file_of};
 ghost use Rattle.hir_wire.specs.Reading.{Reads, made, required, word_as};
-ghost use Rattle.hir_wire.specs.Commands.{verb_of_word, set_file_in, set_expansion_in, unit_expansion_in, inner_expansion_in, set_block_in, set_crate_in, resolve_in, trait_items_in, impl_items_in, modules_in, tree_in, fields_of, command_with, command_of, data_of, reading_of};
+ghost use Rattle.hir_wire.specs.Commands.{verb_of_word, set_file_in, set_expansion_in, unit_expansion_in, inner_expansion_in, set_block_in, set_crate_in, path_to_in, resolve_in, trait_items_in, impl_items_in, modules_in, tree_in, fields_of, command_with, command_of, data_of, reading_of};
 
-use crate::command::{Command, CrateInput, MacroStyle, Shadow};
+use crate::command::{Command, CrateInput, MacroStyle, Namespace, PathPrefix, Shadow};
 use crate::edit::Edit;
-use crate::json::combinators::{both, required};
+use crate::json::combinators::{both, optional, required};
 use crate::json::floats::holds_float;
-use crate::json::from_json::has_member;
+use crate::json::from_json::{FromJson, has_member};
 use crate::json::words::{Word, optional_word, required_word};
 use crate::read::expansion::{read_entry, read_inner};
 use crate::read_error::ReadError;
 use hir_base::ids::Crate;
+use hir_base::mod_path::MAX_SEGMENTS;
 use serde_json::{Map, Value};
 use std::alloc::Global;
 
@@ -38,6 +39,7 @@ pub enum Verb {
     Diagnostics,
     Names,
     Modules,
+    PathTo,
     Tree,
 }
 
@@ -65,6 +67,7 @@ impl Word for Verb {
             "diagnostics" => Some(Verb::Diagnostics),
             "names" => Some(Verb::Names),
             "modules" => Some(Verb::Modules),
+            "path to" => Some(Verb::PathTo),
             "tree" => Some(Verb::Tree),
             _ => None,
         }
@@ -95,6 +98,64 @@ impl Word for Option<MacroStyle> {
             "bang" => Some(Some(MacroStyle::Bang)),
             "attr" => Some(Some(MacroStyle::Attr)),
             _ => None,
+        }
+    }
+}
+
+impl Word for Namespace {
+    ghost use Rattle.hir_wire.specs.Commands.{namespace_of_word};
+
+    ghost of_word = { namespace_of_word };
+
+    fn from_word(word: &str) -> Option<Namespace> {
+        match word {
+            "types" => Some(Namespace::Types),
+            "values" => Some(Namespace::Values),
+            "macros" => Some(Namespace::Macros),
+            _ => None,
+        }
+    }
+}
+
+impl Word for PathPrefix {
+    ghost use Rattle.hir_wire.specs.Commands.{prefix_of_word};
+
+    ghost of_word = { prefix_of_word };
+
+    fn from_word(word: &str) -> Option<PathPrefix> {
+        match word {
+            "plain" => Some(PathPrefix::Plain),
+            "crate" => Some(PathPrefix::Crate),
+            _ => None,
+        }
+    }
+}
+
+/// The most segments of a path that is looked for, where nothing is said.
+const USUAL_SEGMENTS: u32 = 8;
+
+/// How many segments a path may have that is looked for.
+#[derive(Clone, Copy, Drop)]
+struct Most {
+    segments: u32,
+}
+
+impl FromJson for Most {
+    ghost use Rattle.std.specs.Prelude.{ℕ};
+    ghost use Rattle.hir_wire.specs.Commands.{most_of};
+
+    ghost Seen = { ℕ };
+
+    ghost seen = { λ m. m.segments };
+
+    ghost meaning = { most_of };
+
+    fn read(alloc: Global, value: &Value) -> Result<Most, ReadError> {
+        let segments = u32::read(alloc, value)?;
+        if 1 <= segments && segments as usize <= MAX_SEGMENTS {
+            Ok(Most { segments })
+        } else {
+            Err(ReadError::Command)
         }
     }
 }
@@ -344,6 +405,37 @@ fn read_modules(alloc: Global, members: &Map<String, Value>) -> Result<Command, 
     }
 }
 
+#[tactic(auto, unfolding(crate::specs::Commands::path_to_in))]
+fn read_path_to(alloc: Global, members: &Map<String, Value>) -> Result<Command, ReadError>
+    ensures value { Reads command_view (path_to_in (members_view members.now.entries)) result }
+{
+    let usual = Most {
+        segments: USUAL_SEGMENTS,
+    };
+    match both(
+        both(
+            required(alloc, members, "at"),
+            required(alloc, members, "def"),
+        ),
+        both(
+            required_word(members, "ns"),
+            both(
+                optional_word(members, "prefix", PathPrefix::Plain),
+                optional(alloc, members, "most", usual),
+            ),
+        ),
+    ) {
+        Ok(((at, def), (namespace, (prefix, most)))) => Ok(Command::PathTo {
+            at,
+            def,
+            namespace,
+            prefix,
+            most: most.segments,
+        }),
+        Err(error) => Err(error),
+    }
+}
+
 #[tactic(auto, unfolding(crate::specs::Commands::tree_in))]
 fn read_tree(alloc: Global, members: &Map<String, Value>) -> Result<Command, ReadError>
     ensures value { Reads command_view (tree_in (members_view members.now.entries)) result }
@@ -383,6 +475,7 @@ fn read_verb_fields(
         Verb::Diagnostics => read_diagnostics(alloc, members),
         Verb::Names => read_names(alloc, members),
         Verb::Modules => read_modules(alloc, members),
+        Verb::PathTo => read_path_to(alloc, members),
         Verb::Tree => read_tree(alloc, members),
     }
 }

@@ -54,7 +54,7 @@ fn called_by(
 }
 
 /// A path with each name as it is handed in.
-fn path_value(alloc: Global, path: &ModPath) -> Result<Value, AllocError>
+pub fn path_value(alloc: Global, path: &ModPath) -> Result<Value, AllocError>
     ensures value { IfOk result (λ v. view v ≡ string (path_shown None path.now)) }
 {
     let text = path.display_verbatim().to_string(alloc)?;

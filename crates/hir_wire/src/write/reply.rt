@@ -2,18 +2,19 @@
 ghost use Rattle.std.specs.Prelude.{◌≡◌, IfOk, IfSome, is_some, string_bytes, codes, map};
 ghost use Rattle.serde_json.specs.Data.{object, array, member, no_members};
 ghost use Rattle.serde_json.specs.View.{view, items_of};
-ghost use Rattle.hir_wire.specs.Replies.{text_of, reply_data, is_fixed, refusal, success, place_data};
+ghost use Rattle.hir_wire.specs.Replies.{text_of, reply_data, is_fixed, or_null, path_data, refusal, success, place_data};
 ghost use Rattle.hir_wire.specs.Words.{status_word};
 
 use crate::reply::{Reply, Status};
 use crate::write::answer::answer_value;
 use crate::write::definition::{id_value, kind_word, place_value};
-use crate::write::diagnostic::diagnostics_list;
+use crate::write::diagnostic::{diagnostics_list, path_value};
 use crate::write::items::items_value;
 use crate::write::names::names_list;
 use hir_base::ast_id::{AstKind, SyntaxId};
 use hir_base::ids::Crate;
 use hir_base::limit::Limit;
+use hir_base::mod_path::ModPath;
 use hir_base::place::Place;
 use serde_json::{Map, Value, json};
 use std::alloc::{AllocError, Global};
@@ -98,6 +99,7 @@ fn reply_value(alloc: Global, reply: &Reply) -> Result<Value, AllocError>
         }
         Reply::Items(items) => success(alloc, items_value(alloc, items)?),
         Reply::Names(names) => success(alloc, Value::Array(names_list(alloc, names.as_slice())?)),
+        Reply::Path(path) => success(alloc, path_or_null(alloc, path)?),
         Reply::Text(text) => success(alloc, Value::try_from_str(alloc, text.as_str())?),
         Reply::Json => refusal(alloc, "json"),
         Reply::Command => refusal(alloc, "command"),
@@ -145,6 +147,15 @@ fn duplicate_id(alloc: Global, kind: AstKind, id: SyntaxId) -> Result<Value, All
 {
     let id = id_value(alloc, id)?;
     json!(in alloc; {"error": "duplicate id", "id": id, "kind": kind_word(kind)})
+}
+
+fn path_or_null(alloc: Global, path: &Option<ModPath>) -> Result<Value, AllocError>
+    ensures value { IfOk result (λ v. view v ≡ or_null path_data path.now) }
+{
+    match path {
+        None => Ok(Value::Null),
+        Some(path) => path_value(alloc, path),
+    }
 }
 
 fn places_list(alloc: Global, places: &[Place]) -> Result<Vec<Value>, AllocError>

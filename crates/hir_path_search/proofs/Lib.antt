@@ -1,0 +1,16 @@
+pub mod Orders
+pub mod Onwards
+pub mod Askings
+pub mod Beginnings
+pub mod Through
+pub mod Gathering
+pub mod BestPaths
+pub mod Listed
+pub mod Hits
+pub mod Covered
+pub mod Starting
+pub mod Remembered
+pub mod Slices
+pub mod Builtins
+pub mod First
+pub mod Collected

@@ -1,0 +1,11 @@
+-- The names have the crates, and what those that were asked so far give.
+use Rattle.std.proofs.Common.{length}
+use Rattle.hir_nameres.specs.DefMaps.{maps_of}
+use Rattle.hir_path_search.proofs.First.{HaveAbsolute}
+use Rattle.hir_path_search.proofs.search.PathSearch.absolute_candidates.Given as goal
+
+abbrev pub invariant-each : goal.invariant-each
+invariant-each g l = HaveAbsolute (g.S.Sought.is_sought l.self.sought.now) l.self.namespace (maps_of l.self.maps) l.self.local.now l.self.askers.now l.left l.names.items
+
+abbrev pub decreases-each : goal.decreases-each
+decreases-each g l = length l.left

@@ -1,0 +1,6 @@
+-- The names so far.
+use Rattle.std.proofs.Common.{◌≡◌, take}
+use Rattle.hir_path_search.proofs.search.path_of.Given as goal
+
+abbrev pub invariant-loop-name : goal.invariant-loop-name
+invariant-loop-name l = l.segments.items ≡ take l.name-index l.name-items
