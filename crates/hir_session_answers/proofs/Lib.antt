@@ -14,3 +14,4 @@ pub mod Listed
 pub mod Placing
 pub mod Naming
 pub mod Refused
+pub mod Leading

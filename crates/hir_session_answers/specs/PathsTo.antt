@@ -1,23 +1,37 @@
 -- Which paths lead to a definition, in source items?
-use Rattle.std.specs.Prelude.{◌≡◌, ℕ, ◌≤◌, Bool, true, false, Option, None, Some, Ok, Err, length}
+use Rattle.std.specs.Prelude.{◌≡◌, ℕ, ◌≤◌, Bool, true, false, Option, None, Some, Ok, Err, length, min}
 use Rattle.hir_session_state.specs.HirBase.ModPath.{Path}
 use Rattle.hir_session_state.specs.HirBase.Place.{PlaceValue}
 use Rattle.hir_session_state.specs.HirBase.declared.mod_path.PathKind.{PathKind}
 use Rattle.hir_session_state.specs.HirBase.declared.mod_path.PathKind.TheVariants as kinds
+use Rattle.hir_session_state.specs.HirIds.declared.ast_id.SyntaxId.{SyntaxId}
+use Rattle.hir_session_state.specs.HirIds.declared.ids.Crate.{Crate}
+use Rattle.hir_session_state.specs.HirIds.declared.ids.ModuleDefId.{ModuleDefId}
+use Rattle.hir_session_state.specs.HirIds.declared.ids.ModuleId.{ModuleId}
+use Rattle.hir_session_state.specs.HirPerNs.declared.per_ns.Namespace.{Namespace as SearchedNamespace}
+use Rattle.hir_session_state.specs.HirPerNs.declared.per_ns.Namespace.TheVariants as searched
+use Rattle.hir_session_state.specs.HirDefMapRules.Overlay.{Maps, overlay}
+use Rattle.hir_session_state.specs.HirDefMapRules.State.{Local}
+use Rattle.hir_path_search.specs.declared.search.PathPrefix.{PathPrefix as SearchedPrefix}
+use Rattle.hir_path_search.specs.declared.search.PathPrefix.TheVariants as begins
+use Rattle.hir_path_search.specs.Finding.{Finds}
+use Rattle.hir_session_state.specs.HirTables.Tables.{TablesValue}
 use Rattle.hir_session_state.specs.HirMessages.contracts.answer.DefinitionPartialEq.TheImpl as definitions
 use Rattle.hir_session_state.specs.HirMessages.declared.answer.Answer.{Answer}
 use Rattle.hir_session_state.specs.HirMessages.declared.answer.AnswerItem.{AnswerItem}
 use Rattle.hir_session_state.specs.HirMessages.declared.answer.Definition.{Definition}
+use Rattle.hir_session_state.specs.HirMessages.declared.answer.ItemSource.{ItemSource}
+use Rattle.hir_session_state.specs.HirMessages.declared.answer.SourceKind.{SourceKind}
 use Rattle.hir_session_state.specs.HirMessages.declared.command.Namespace.{Namespace}
 use Rattle.hir_session_state.specs.HirMessages.declared.command.PathPrefix.{PathPrefix}
 use Rattle.hir_session_state.specs.HirMessages.declared.command.Namespace.TheVariants as namespace
 use Rattle.hir_session_state.specs.HirMessages.declared.command.PathPrefix.TheVariants as prefix
 use Rattle.hir_session_state.specs.HirMessages.declared.command.Shadow.TheVariants as shadow
 use Rattle.hir_session_state.specs.declared.error.QueryError.{QueryError}
-use Rattle.hir_session_state.specs.SessionState.{SessionState}
-use Rattle.hir_session_state.specs.HirTables.Tables.{TablesValue}
-use Rattle.hir_session_answers.specs.Answers.{answer_of}
-use Rattle.hir_session_answers.specs.SourceItems.{definition_of}
+use Rattle.hir_session_state.specs.SessionState.{SessionState, Resolution, module_of, read_of}
+use Rattle.hir_session_answers.specs.Answers.{answer_kept, answer_of}
+use Rattle.hir_session_answers.specs.AnswersStand.{StandsAt}
+use Rattle.hir_session_answers.specs.SourceItems.{definition_of, item_in}
 
 -- whether a path begins as it is to
 abbrev pub begins_so : PathPrefix → PathKind → Bool
@@ -48,33 +62,47 @@ abbrev pub is_definition : Definition → Option Definition → Bool
 is_definition def None = false
 is_definition def (Some found) = definitions.ghosts.eq found def
 
--- whether an item of a crate may be a definition, by its kind and its node
-abbrev pub may_be_item : Definition → Crate → SourceKind → SyntaxId → Bool
-may_be_item (definition.Item sought item) krate kind id = eq_id id item.id && eq_kind kind item.kind && eq_crate krate sought
-may_be_item _ krate kind id = false
+-- whether what a name stands for is a definition
+abbrev pub is_sought : TablesValue → Maps → Definition → ModuleDefId → Bool
+is_sought tables maps def named = is_definition def (definition_of tables maps named)
 
-abbrev pub may_be_adt : Definition → AdtId → Bool
-may_be_adt sought (adt.StructId i) = may_be_item sought i.loc.container.map.krate (source.Node kind.Struct) i.loc.id
-may_be_adt sought (adt.UnionId i) = may_be_item sought i.loc.container.map.krate (source.Node kind.Union) i.loc.id
-may_be_adt sought (adt.EnumId i) = may_be_item sought i.loc.container.map.krate (source.Node kind.Enum) i.loc.id
+-- what is in the sources, if it is there, is another definition
+abbrev pub IsElsewhere : Definition → Option Definition → Type 0
+IsElsewhere def found = is_definition def found ≡ false
 
-abbrev pub may_be_macro : Definition → MacroId → Bool
-may_be_macro sought (macro.Macro2Id i) = may_be_item sought i.loc.container.map.krate (source.Node kind.MacroDef) i.loc.id
-may_be_macro sought (macro.MacroRulesId i) = may_be_item sought i.loc.container.map.krate (source.Node kind.MacroRules) i.loc.id
-may_be_macro sought (macro.ProcMacroId i) = may_be_item sought i.loc.container.map.krate source.ProcMacro i.loc.id
+-- no item of a crate that has this kind and this node is a definition, wherever it is written
+abbrev pub IsNoItem : Definition → Crate → SourceKind → SyntaxId → Type 0
+IsNoItem def krate kind id = (held : ItemSource) → definitions.ghosts.eq (item_in krate kind id held) def ≡ false
 
--- whether what a name stands for may be a definition, by its crate, its kind and its node
-abbrev pub may_be : Definition → ModuleDefId → Bool
-may_be sought (def.ModuleId m) = true
-may_be sought (def.FunctionId i) = may_be_item sought (crate_of i.loc.container) (source.Node kind.Fn) i.loc.id
-may_be sought (def.AdtId i) = may_be_adt sought i
-may_be sought (def.EnumVariantId i) = may_be_item sought i.parent.loc.container.map.krate (source.Node kind.Variant) i.id
-may_be sought (def.ConstId i) = may_be_item sought (crate_of i.loc.container) (source.Node kind.Const) i.loc.id
-may_be sought (def.StaticId i) = may_be_item sought (crate_of i.loc.container) (source.Node kind.Static) i.loc.id
-may_be sought (def.TraitId i) = may_be_item sought i.loc.container.map.krate (source.Node kind.Trait) i.loc.id
-may_be sought (def.TypeAliasId i) = may_be_item sought (crate_of i.loc.container) (source.Node kind.TypeAlias) i.loc.id
-may_be sought (def.BuiltinType b) = true
-may_be sought (def.MacroId i) = may_be_macro sought i
+-- ---- the search
+
+abbrev pub namespace_of : Namespace → SearchedNamespace
+namespace_of namespace.Types = searched.Types
+namespace_of namespace.Values = searched.Values
+namespace_of namespace.Macros = searched.Macros
+
+abbrev pub prefix_of : PathPrefix → SearchedPrefix
+prefix_of prefix.Plain = begins.Plain
+prefix_of prefix.Crate = begins.Crate
+
+-- as many segments as are asked for, but no more than a path may have
+abbrev pub at_most : ℕ → ℕ
+at_most most = min most 64
+
+-- the best path that names a definition, asked from a module of these maps, or there is none
+abbrev pub FindsOver : TablesValue → Maps → Local → ModuleId → Definition → Namespace → PathPrefix → ℕ → Option Path → Type 0
+FindsOver tables maps local m def ns prefix most = Finds maps local m (is_sought tables maps def) (namespace_of ns) (prefix_of prefix) (at_most most)
+
+-- the same at a place: from its module, over a resolution in which a derivation from the present sources ends, beside the finished maps on which it stands
+pub record FindsBest (s : SessionState) (place : PlaceValue) (def : Definition) (ns : Namespace) (prefix : PathPrefix) (most : ℕ) (found : Option Path)
+    : Type 0 where
+  pub asked_from : ModuleId
+  pub named : module_of s place ≡ Some asked_from
+  pub over : Resolution
+  pub stands : StandsAt s asked_from.map over
+  pub best : FindsOver s.tables (overlay (read_of s asked_from.map) over.map) over.local asked_from def ns prefix most found
+
+-- ---- what a path that is found answers
 
 -- whether the whole path was resolved, and to this
 abbrev pub is_whole : Option ℕ → Bool → Bool
@@ -92,6 +120,10 @@ pub record LeadsTo (s : SessionState) (place : PlaceValue) (def : Definition) (n
   pub answer : Answer
   pub answered : answer_of s place path shadow.Other None ≡ Ok answer
   pub names : names_definition ns answer def ≡ true
+
+-- no path is answered over what is kept, and this is told instead
+abbrev pub AreRefusedOver : SessionState → PlaceValue → QueryError → Type 0
+AreRefusedOver s place why = (path : Path) → answer_kept s place path shadow.Other None ≡ Err why
 
 -- no path is answered at a place, and this is told instead
 abbrev pub AreRefused : SessionState → PlaceValue → QueryError → Type 0

@@ -1,17 +1,19 @@
 //! Paths that name a definition, which is given as answers write it.
 
-ghost use Rattle.std.specs.Prelude.{◌≡◌, ◌&&◌, nat_le, length};
-ghost use Rattle.hir_session_answers.specs.PathsTo.{answered_in, begins_so, is_item_of, may_be, may_be_adt, may_be_item, may_be_macro, names_definition};
+ghost use Rattle.std.specs.Prelude.{◌≡◌, false, IfOk};
+ghost use Rattle.hir_session_state.specs.HirNameres.DefMaps.{maps_of};
+ghost use Rattle.hir_session_answers.specs.SourceItems.{adt_definition, definition_of, macro_definition};
+ghost use Rattle.hir_session_answers.specs.PathsTo.{at_most, namespace_of, prefix_of, FindsOver, IsElsewhere, IsNoItem};
 
 use crate::source_items::definitions::{crate_at, definition_at};
 use hir_base::ast_id::{AstKind, SyntaxId};
 use hir_base::ids::{AdtId, Crate, ModuleDefId, ModuleId};
 use hir_base::macro_kind::MacroId;
-use hir_base::mod_path::{MAX_SEGMENTS, ModPath, PathKind};
+use hir_base::mod_path::{MAX_SEGMENTS, ModPath};
 use hir_path_search::{self, Sought, find_path};
 use hir_session_state::hir_def_map::def_maps::DefMaps;
 use hir_session_state::hir_def_map::nameres::local_def_map::LocalDefMap;
-use hir_session_state::hir_messages::answer::{Answer, AnswerItem, Definition, SourceKind};
+use hir_session_state::hir_messages::answer::{Definition, SourceKind};
 use hir_session_state::hir_messages::command::{Namespace, PathPrefix};
 use hir_session_state::hir_scope::per_ns;
 use hir_tables::Tables;
@@ -28,7 +30,7 @@ struct SoughtDefinition<'a> {
 impl SoughtDefinition<'_> {
     /// Whether an item of this kind, with this node, may be the one that is looked for.
     fn may_be_item(&self, krate: Crate, kind: SourceKind, id: SyntaxId) -> bool
-        ensures value { result ≡ may_be_item self.now.definition.now krate kind id }
+        ensures left_out { result ≡ false → IsNoItem self.now.definition.now krate kind id }
     {
         match self.definition {
             Definition::Item {
@@ -40,7 +42,7 @@ impl SoughtDefinition<'_> {
     }
 
     fn may_be_adt(&self, adt: AdtId) -> bool
-        ensures value { result ≡ may_be_adt self.now.definition.now adt }
+        ensures left_out { result ≡ false → IsElsewhere self.now.definition.now (adt_definition self.now.tables.now adt) }
     {
         match adt {
             AdtId::StructId(i) => {
@@ -59,7 +61,7 @@ impl SoughtDefinition<'_> {
     }
 
     fn may_be_macro(&self, makro: MacroId) -> bool
-        ensures value { result ≡ may_be_macro self.now.definition.now makro }
+        ensures left_out { result ≡ false → IsElsewhere self.now.definition.now (macro_definition self.now.tables.now makro) }
     {
         match makro {
             MacroId::Macro2Id(i) => {
@@ -78,7 +80,7 @@ impl SoughtDefinition<'_> {
 
     /// Whether a definition may be the one that is looked for, by its crate, its kind and its node; this takes no memory.
     fn may_be(&self, def: ModuleDefId) -> bool
-        ensures value { result ≡ may_be self.now.definition.now def }
+        ensures left_out { result ≡ false → IsElsewhere self.now.definition.now (definition_of self.now.tables.now (maps_of self.now.maps.now) def) }
     {
         match def {
             ModuleDefId::ModuleId(_) | ModuleDefId::BuiltinType(_) => true,
@@ -114,10 +116,9 @@ impl SoughtDefinition<'_> {
 
 impl Sought for SoughtDefinition<'_> {
     ghost use Rattle.hir_session_state.specs.HirNameres.DefMaps.{maps_of};
-    ghost use Rattle.hir_session_answers.specs.SourceItems.{definition_of};
-    ghost use Rattle.hir_session_answers.specs.PathsTo.{is_definition};
+    ghost use Rattle.hir_session_answers.specs.PathsTo.{is_sought};
 
-    ghost is_sought = { λ s def. is_definition s.definition.now (definition_of s.tables.now (maps_of s.maps.now) def) };
+    ghost is_sought = { λ s def. is_sought s.tables.now (maps_of s.maps.now) s.definition.now def };
 
     fn is(&self, alloc: Global, def: ModuleDefId) -> Result<bool, AllocError> {
         if !self.may_be(def) {
@@ -130,7 +131,9 @@ impl Sought for SoughtDefinition<'_> {
     }
 }
 
-fn namespace_of(namespace: Namespace) -> per_ns::Namespace {
+fn namespace_of(namespace: Namespace) -> per_ns::Namespace
+    ensures value { result ≡ namespace_of namespace }
+{
     match namespace {
         Namespace::Types => per_ns::Namespace::Types,
         Namespace::Values => per_ns::Namespace::Values,
@@ -138,62 +141,27 @@ fn namespace_of(namespace: Namespace) -> per_ns::Namespace {
     }
 }
 
-fn prefix_of(prefix: PathPrefix) -> hir_path_search::PathPrefix {
+fn prefix_of(prefix: PathPrefix) -> hir_path_search::PathPrefix
+    ensures value { result ≡ prefix_of prefix }
+{
     match prefix {
         PathPrefix::Plain => hir_path_search::PathPrefix::Plain,
         PathPrefix::Crate => hir_path_search::PathPrefix::Crate,
     }
 }
 
-/// Whether a path begins as it is to.
-fn begins_so(prefix: PathPrefix, kind: PathKind) -> bool
-    ensures value { result ≡ begins_so prefix kind }
+/// The number of segments that are asked for, but no more than a path may have.
+fn at_most(most: u32) -> usize
+    ensures value { result ≡ at_most most }
 {
-    match prefix {
-        PathPrefix::Plain => !matches!(kind, PathKind::DollarCrate(_)),
-        PathPrefix::Crate => matches!(kind, PathKind::Crate | PathKind::Abs),
+    if most as usize > MAX_SEGMENTS {
+        MAX_SEGMENTS
+    } else {
+        most as usize
     }
 }
 
-/// Whether a path begins as it is to, and has no more than so many segments.
-pub fn fits(path: &ModPath, prefix: PathPrefix, most: u32) -> bool
-    ensures value { result ≡ (begins_so prefix path.now.kind && nat_le (length path.now.segments) most) }
-{
-    begins_so(prefix, path.kind()) && path.segments().len() <= most as usize
-}
-
-/// What is answered in a namespace.
-fn answered_in(namespace: Namespace, answer: &Answer) -> &Option<AnswerItem>
-    ensures value { result.now ≡ answered_in namespace answer.now }
-{
-    match namespace {
-        Namespace::Types => &answer.types,
-        Namespace::Values => &answer.values,
-        Namespace::Macros => &answer.macros,
-    }
-}
-
-/// Whether an item is of a definition.
-fn is_item_of(definition: &Definition, item: &Option<AnswerItem>) -> bool
-    ensures value { result ≡ is_item_of definition.now item.now }
-{
-    match item {
-        Some(item) => item.def == *definition,
-        None => false,
-    }
-}
-
-/// Whether an answer names a definition in a namespace.
-pub fn names_definition(namespace: Namespace, answer: &Answer, definition: &Definition) -> bool
-    ensures value { result ≡ names_definition namespace answer.now definition.now }
-{
-    match answer.stop {
-        None => is_item_of(definition, answered_in(namespace, answer)),
-        Some(_) => false,
-    }
-}
-
-/// A shortest path that names a definition, asked from a module of one of the maps.
+/// The best path that names a definition, asked from a module of one of the maps; None where no path does.
 pub fn path_at(
     alloc: Global,
     tables: &Tables,
@@ -204,16 +172,13 @@ pub fn path_at(
     namespace: Namespace,
     prefix: PathPrefix,
     most: u32,
-) -> Result<Option<ModPath>, AllocError> {
+) -> Result<Option<ModPath>, AllocError>
+    ensures best { IfOk result (FindsOver tables.now (maps_of maps.now) local.now at definition.now namespace prefix most) }
+{
     let sought = SoughtDefinition {
         tables,
         maps,
         definition,
-    };
-    let most = if most as usize > MAX_SEGMENTS {
-        MAX_SEGMENTS
-    } else {
-        most as usize
     };
     find_path(
         alloc,
@@ -223,6 +188,6 @@ pub fn path_at(
         &sought,
         namespace_of(namespace),
         prefix_of(prefix),
-        most,
+        at_most(most),
     )
 }

@@ -1,7 +1,7 @@
 -- What the reply to a command says, by the number of its line.
 use Rattle.std.proofs.Common.{◌≡◌, ◌≢◌, ◌⊎◌, inl, inr, subst, ℕ, zero, suc, ap, slice_get, Bool, true, false, nat_le, List, [], ◌∷◌, length, None, Some}
 use Rattle.std.proofs.Common.{Result, Ok, Err, refl, sym, ◌∙◌, String, string_bytes}
-use Rattle.std.specs.Prelude.{⊤}
+use Rattle.std.specs.Prelude.{⊤, IfSome, Option}
 use Rattle.std.specs.declared.alloc.Global.{Global}
 use Rattle.hir_session_core.specs.HirBase.Place.{PlaceValue}
 use Rattle.hir_session_core.specs.HirBase.declared.limit.Limit.TheVariants as limit
@@ -38,12 +38,12 @@ use Rattle.hir_session_core.specs.HirSessionState.SessionState.{SessionState}
 use Rattle.hir_session_core.specs.HirSessionAnswers.Dumps.{dump_at}
 use Rattle.hir_session_core.specs.HirSessionAnswers.Modules.{file_modules_of, modules_of}
 use Rattle.hir_session_core.specs.HirSessionAnswers.Names.{names_of}
-use Rattle.hir_session_core.specs.HirSessionAnswers.PathsTo.{LeadsTo}
+use Rattle.hir_session_core.specs.HirSessionAnswers.PathsTo.{FindsBest, LeadsTo}
 use Rattle.hir_session_core.specs.HirSessionAnswers.Status.{status_of}
 use Rattle.hir_session_core.specs.HirSessionAnswers.TreeText.{tree_text_of}
 use Rattle.hir_session_replies.specs.Replies.{edit_reply, modules_reply, names_reply, new_reply, query_error_reply, refresh_reply}
 use Rattle.hir_session_replies.specs.Replies.{tree_text_reply}
-use Rattle.hir_session_machine.specs.Machine.AnswersPath.{leads, finds_none, refuses_all}
+use Rattle.hir_session_machine.specs.Machine.AnswersPath.{finds, refuses_all}
 use Rattle.hir_session_machine.specs.Machine.{MachineState, AnswersCommand, AnswersPath, AnswersLine, Moves, makes_session}
 use Rattle.hir_session_machine.specs.Machine.Moves.{applies, refuses, refreshes, refreshes_partly, resolves, tells, shows, shows_none, dumps, dumps_none}
 use Rattle.hir_session_machine.specs.Machine.Moves.{asks_for_trait, asks_for_impl, lists, names_all, looks_for_path, lists_modules, lists_file_modules}
@@ -135,14 +135,15 @@ names_ok (Err query_error.StalePlace) list told = absurd (let wrong : ⊥ = cc t
 names_ok (Err query_error.UnknownPlace) list told = absurd (let wrong : ⊥ = cc told in wrong)
 names_ok (Err query_error.Memory) list told = absurd (let wrong : ⊥ = cc told in wrong)
 
-path_leads : {s : SessionState} {at : PlaceValue} {def : Definition} {ns : Namespace} {prefix : PathPrefix} {most : ℕ} (path : Path)
-    → AnswersPath s at def ns prefix most (reply.Path (Some path)) → LeadsTo s at def ns prefix most path
-path_leads {s} {at} {def} {ns} {prefix} {most} path (leads other stands told) =
-    let same : other ≡ path = cc told in subst (LeadsTo s at def ns prefix most) same stands
-path_leads path (finds_none told) = absurd (let wrong : ⊥ = cc told in wrong)
-path_leads path (refuses_all query_error.StalePlace refused told) = absurd (let wrong : ⊥ = cc told in wrong)
-path_leads path (refuses_all query_error.UnknownPlace refused told) = absurd (let wrong : ⊥ = cc told in wrong)
-path_leads path (refuses_all query_error.Memory refused told) = absurd (let wrong : ⊥ = cc told in wrong)
+path_found : {s : SessionState} {at : PlaceValue} {def : Definition} {ns : Namespace} {prefix : PathPrefix} {most : ℕ} (found : Option Path)
+    → AnswersPath s at def ns prefix most (reply.Path found)
+    → FindsBest s at def ns prefix most found × IfSome found (LeadsTo s at def ns prefix most)
+path_found {s} {at} {def} {ns} {prefix} {most} found (finds other best stands told) =
+    let same : other ≡ found = cc told in
+    subst (λ (o : Option Path). FindsBest s at def ns prefix most o × IfSome o (LeadsTo s at def ns prefix most)) same (best, stands)
+path_found found (refuses_all query_error.StalePlace refused told) = absurd (let wrong : ⊥ = cc told in wrong)
+path_found found (refuses_all query_error.UnknownPlace refused told) = absurd (let wrong : ⊥ = cc told in wrong)
+path_found found (refuses_all query_error.Memory refused told) = absurd (let wrong : ⊥ = cc told in wrong)
 
 modules_ok : (r : Result (List PlaceValue) ModulesError) (list : List PlaceValue) → reply.Places list ≡ modules_reply r → r ≡ Ok list
 modules_ok (Ok other) list told = let same : other ≡ list = cc told in cc
@@ -315,12 +316,12 @@ module _ (n : ℕ) (old : MachineState) (lines : List (List ℕ)) (answers : Lis
         stands = names_ok (names_of call.from place) told call.says.1;
       }
 
-  pub paths_told : (place : PlaceValue) (def : Definition) (ns : Namespace) (prefix : PathPrefix) (most : ℕ) (path : Path)
-      → Gives lines n (path_to place def ns prefix most) → slice_get answers n ≡ Some (reply.Path (Some path))
-      → HoldsIn old lines answers new done n (λ s. LeadsTo s place def ns prefix most path)
-  paths_told place def ns prefix most path gives is =
-      let call = at_call (path_to place def ns prefix most) (reply.Path (Some path)) refl (path_command (Some path)) gives is in
-      record { session = call.from; is = call.before; stays = call.after ∙ ap Some call.says.0; stands = path_leads path call.says.1 }
+  pub paths_told : (place : PlaceValue) (def : Definition) (ns : Namespace) (prefix : PathPrefix) (most : ℕ) (found : Option Path)
+      → Gives lines n (path_to place def ns prefix most) → slice_get answers n ≡ Some (reply.Path found)
+      → HoldsIn old lines answers new done n (λ s. FindsBest s place def ns prefix most found × IfSome found (LeadsTo s place def ns prefix most))
+  paths_told place def ns prefix most found gives is =
+      let call = at_call (path_to place def ns prefix most) (reply.Path found) refl (path_command found) gives is in
+      record { session = call.from; is = call.before; stays = call.after ∙ ap Some call.says.0; stands = path_found found call.says.1 }
 
   pub modules_told : (krate : Crate) (told : List PlaceValue) → Gives lines n (crate_modules krate) → slice_get answers n ≡ Some (reply.Places told)
       → HoldsIn old lines answers new done n (λ s. modules_of s krate ≡ Ok told)

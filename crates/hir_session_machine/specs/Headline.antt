@@ -1,5 +1,5 @@
 -- What holds of all replies?
-use Rattle.std.specs.Prelude.{◌≡◌, ◌⊎◌, ℕ, zero, suc, ◌<◌, List, [], ◌∷◌, Option, None, Some, Ok, slice_get, String, string_bytes}
+use Rattle.std.specs.Prelude.{◌≡◌, ◌⊎◌, ℕ, zero, suc, ◌<◌, List, [], ◌∷◌, Option, None, Some, Ok, IfSome, slice_get, String, string_bytes}
 use Rattle.std.specs.declared.alloc.Global.{Global}
 use Rattle.hir_session_core.specs.HirBase.ModPath.{Path}
 use Rattle.hir_session_core.specs.HirBase.Place.{PlaceValue}
@@ -11,7 +11,7 @@ use Rattle.hir_session_core.specs.HirMessages.CommandValue.{dump, edit, file_mod
 use Rattle.hir_session_core.specs.HirMessages.declared.answer.Definition.{Definition}
 use Rattle.hir_session_core.specs.HirMessages.declared.command.Namespace.{Namespace}
 use Rattle.hir_session_core.specs.HirMessages.declared.command.PathPrefix.{PathPrefix}
-use Rattle.hir_session_core.specs.HirSessionAnswers.PathsTo.{LeadsTo}
+use Rattle.hir_session_core.specs.HirSessionAnswers.PathsTo.{FindsBest, LeadsTo}
 use Rattle.hir_session_core.specs.HirMessages.CommandValue.{refresh, resolve, status, trait_items, tree}
 use Rattle.hir_wire.specs.Commands.{reading_of}
 use Rattle.hir_session_core.specs.HirMessages.Edits.{EditValue}
@@ -201,10 +201,11 @@ pub record Headline (lines : List (List ℕ)) (answers : List Reply) (last : Mac
   -- so is what the names of a module stand for, over a map that the present sources come to
   pub tells_names : (n : ℕ) (place : PlaceValue) (told : List BoundName) → Gives lines n (names place) → slice_get answers n ≡ Some (reply.Names told)
       → HoldsIn first_state lines answers last done n (λ s. (names_of s place ≡ Ok told) × NamesStand s place told)
-  -- a path that is told leads to the definition
-  pub finds_paths : (n : ℕ) (place : PlaceValue) (def : Definition) (ns : Namespace) (prefix : PathPrefix) (most : ℕ) (path : Path)
-      → Gives lines n (path_to place def ns prefix most) → slice_get answers n ≡ Some (reply.Path (Some path))
-      → HoldsIn first_state lines answers last done n (λ s. LeadsTo s place def ns prefix most path)
+  -- a path that is told leads to the definition, and is the best that does; null is told where none does
+  pub finds_paths : (n : ℕ) (place : PlaceValue) (def : Definition) (ns : Namespace) (prefix : PathPrefix) (most : ℕ) (found : Option Path)
+      → Gives lines n (path_to place def ns prefix most) → slice_get answers n ≡ Some (reply.Path found)
+      → HoldsIn first_state lines answers last done n
+        (λ s. FindsBest s place def ns prefix most found × IfSome found (LeadsTo s place def ns prefix most))
   -- so are the modules of a crate, and those that a file is
   pub lists_modules : (n : ℕ) (krate : Crate) (told : List PlaceValue) → Gives lines n (crate_modules krate) → slice_get answers n
       ≡ Some (reply.Places told)

@@ -1,5 +1,5 @@
 -- How does a session answer commands and lines?
-use Rattle.std.specs.Prelude.{◌≡◌, ℕ, Bool, true, false, List, length, Option, None, Some, Ok, Err, String, string_bytes}
+use Rattle.std.specs.Prelude.{◌≡◌, ℕ, Bool, true, false, List, length, Option, None, Some, Ok, Err, IfSome, String, string_bytes}
 use Rattle.std.specs.declared.alloc.Global.{Global}
 use Rattle.hir_session_core.specs.HirBase.ModPath.{Path}
 use Rattle.hir_session_core.specs.HirBase.Place.{PlaceValue}
@@ -40,7 +40,7 @@ use Rattle.hir_session_core.specs.HirSessionAnswers.Diagnostics.{diagnostics_of}
 use Rattle.hir_session_core.specs.HirSessionAnswers.Dumps.{dump_at}
 use Rattle.hir_session_core.specs.HirSessionAnswers.Modules.{file_modules_of, modules_of}
 use Rattle.hir_session_core.specs.HirSessionAnswers.Names.{names_of}
-use Rattle.hir_session_core.specs.HirSessionAnswers.PathsTo.{AreRefused, LeadsTo}
+use Rattle.hir_session_core.specs.HirSessionAnswers.PathsTo.{AreRefused, FindsBest, LeadsTo}
 use Rattle.hir_session_core.specs.HirSessionAnswers.AssocItems.{impl_at, trait_at, ListsImpl, ListsTrait, RefusesImpl, RefusesTrait}
 use Rattle.hir_session_replies.specs.Replies.{new_reply, edit_reply, refresh_reply, query_error_reply, query_reply, trait_items_reply, impl_items_reply}
 use Rattle.hir_session_replies.specs.Replies.{tree_text_reply, diagnostics_reply, modules_reply, names_reply, read_reply}
@@ -71,10 +71,9 @@ pub data AnswersImpl (s : SessionState) (at : PlaceValue) (number : ℕ) (answer
 
 -- what is told of a path to a definition
 pub data AnswersPath (s : SessionState) (at : PlaceValue) (def : Definition) (ns : Namespace) (prefix : PathPrefix) (most : ℕ) (answer : Reply) : Type 0 where
-  -- it leads there
-  leads : (path : Path) → LeadsTo s at def ns prefix most path → answer ≡ reply.Path (Some path) → AnswersPath s at def ns prefix most answer
-  -- none is found
-  finds_none : answer ≡ reply.Path None → AnswersPath s at def ns prefix most answer
+  -- the best one, which leads there, or that there is none
+  finds : (found : Option Path) → FindsBest s at def ns prefix most found → IfSome found (LeadsTo s at def ns prefix most) → answer ≡ reply.Path found
+      → AnswersPath s at def ns prefix most answer
   -- no path is answered at the place
   refuses_all : (why : QueryError) → AreRefused s at why → answer ≡ query_error_reply why → AnswersPath s at def ns prefix most answer
 

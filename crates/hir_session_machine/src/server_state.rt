@@ -159,8 +159,7 @@ fn path_found(
     ensures step { AnswersCommand (Some session.now) (asks_for_path at.now def.now namespace prefix most) result (Some session.now) }
 {
     match session.path_to(alloc, at, def, namespace, prefix, most) {
-        Ok(Some(path)) => Reply::Path(Some(path)),
-        Ok(None) => Reply::Path(None),
+        Ok(found) => Reply::Path(found),
         Err(error) => reply_to_query(error),
     }
 }

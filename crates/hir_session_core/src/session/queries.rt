@@ -19,7 +19,7 @@ ghost use Rattle.hir_session_answers.specs.TreeText.{tree_text_of};
 ghost use Rattle.hir_session_answers.specs.Modules.{file_modules_of, modules_in, modules_of};
 ghost use Rattle.hir_session_answers.specs.Names.{names_kept, names_of};
 ghost use Rattle.hir_session_answers.specs.NamesStand.{NamesStand};
-ghost use Rattle.hir_session_answers.specs.PathsTo.{AreRefused, LeadsTo};
+ghost use Rattle.hir_session_answers.specs.PathsTo.{AreRefused, AreRefusedOver, FindsBest, LeadsTo};
 
 use super::Session;
 use hir_base::file_path::FilePath;
@@ -31,7 +31,7 @@ use hir_session_answers::answers::answer_at;
 use hir_session_answers::diagnostics::diagnostics_at;
 use hir_session_answers::modules::list_modules;
 use hir_session_answers::names::names_at;
-use hir_session_answers::paths::{fits, names_definition, path_at};
+use hir_session_answers::paths::path_at;
 use hir_session_answers::standing::{PlaceStanding, standing_at};
 use hir_session_sources::crate_info::CrateInfo;
 use hir_session_sources::files::Files;
@@ -213,7 +213,7 @@ impl Session {
         }
     }
 
-    /// A path that is looked for to name a definition, over what is kept.
+    /// A path that names a definition, over what is kept.
     fn path_kept(
         &self,
         alloc: Global,
@@ -222,19 +222,24 @@ impl Session {
         namespace: Namespace,
         prefix: PathPrefix,
         most: u32,
-    ) -> Result<Option<ModPath>, AllocError> {
+    ) -> Result<Option<ModPath>, QueryError>
+        ensures best { status.Current ≡ status_of self.now place.now → IfOk result (FindsBest self.now place.now definition.now namespace prefix most) }
+        ensures leads { status.Current ≡ status_of self.now place.now
+            → IfOk result (λ found. IfSome found (LeadsTo self.now place.now definition.now namespace prefix most)) }
+        ensures refused { IfErr result (λ e. IsQueryMemory e ⊎ AreRefusedOver self.now place.now e) }
+    {
         let Some(at) = self.standing(place).module() else {
-            return Ok(None);
+            return Err(QueryError::UnknownPlace);
         };
         let Some(found) = self.kept.get(at.map) else {
-            return Ok(None);
+            return Err(QueryError::UnknownPlace);
         };
         let Some(transitive) = self.inputs.crates().transitive_dependencies(at.map.krate) else {
-            return Ok(None);
+            return Err(QueryError::UnknownPlace);
         };
         let read = WorldPart::among(self.kept.world(), transitive, found.holders);
         let maps = DefMaps::new(read, found.map);
-        path_at(
+        let path = path_at(
             alloc,
             &self.tables,
             &maps,
@@ -244,33 +249,11 @@ impl Session {
             namespace,
             prefix,
             most,
-        )
+        )?;
+        Ok(path)
     }
 
-    /// A path, where it leads to a definition from the module that a place names, begins as it is to, and has no more than so many
-    /// segments.
-    fn leading(
-        &self,
-        alloc: Global,
-        place: &Place,
-        definition: &Definition,
-        namespace: Namespace,
-        prefix: PathPrefix,
-        most: u32,
-        path: ModPath,
-    ) -> Result<Option<ModPath>, QueryError>
-        ensures found { IfOk result (λ found. IfSome found (LeadsTo self.now place.now definition.now namespace prefix most)) }
-        ensures refused { IfErr result (λ e. IsQueryMemory e ⊎ AreRefused self.now place.now e) }
-    {
-        let answer = self.resolve_path(alloc, place, &path, Shadow::Other, None)?;
-        if fits(&path, prefix, most) && names_definition(namespace, &answer, definition) {
-            Ok(Some(path))
-        } else {
-            Ok(None)
-        }
-    }
-
-    /// A shortest path that names a definition in a namespace, from the module that a place names, of at most so many segments
+    /// The best path that names a definition in a namespace, from the module that a place names, of at most so many segments
     /// (and never more than 64); None where there is none.
     pub fn path_to(
         &self,
@@ -281,17 +264,13 @@ impl Session {
         prefix: PathPrefix,
         most: u32,
     ) -> Result<Option<ModPath>, QueryError>
-        ensures found { IfOk result (λ found. IfSome found (LeadsTo self.now place.now definition.now namespace prefix most)) }
+        ensures best { IfOk result (FindsBest self.now place.now definition.now namespace prefix most) }
+        ensures leads { IfOk result (λ found. IfSome found (LeadsTo self.now place.now definition.now namespace prefix most)) }
         ensures refused { IfErr result (λ e. IsQueryMemory e ⊎ AreRefused self.now place.now e) }
     {
         match self.status(place) {
             Status::Current => {
-                match self.path_kept(alloc, place, definition, namespace, prefix, most)? {
-                    Some(path) => self.leading(
-                        alloc, place, definition, namespace, prefix, most, path,
-                    ),
-                    None => Ok(None),
-                }
+                self.path_kept(alloc, place, definition, namespace, prefix, most)
             }
             Status::Stale => Err(QueryError::StalePlace),
             Status::Unknown => Err(QueryError::UnknownPlace),

@@ -1,17 +1,14 @@
--- A path that is found leads there, or it is told why none is answered; nothing changes.
+-- A path that is found leads there and is the best, or it is told why none is answered; nothing changes.
 use Rattle.std.proofs.Common.{ap, inl, inr, refl, ◌∙◌}
 use Rattle.hir_session_core.specs.HirSessionState.declared.error.QueryError.{QueryError}
 use Rattle.hir_session_replies.specs.Replies.{query_error_reply}
-use Rattle.hir_session_machine.specs.Machine.AnswersPath.{finds_none, leads, refuses_all}
+use Rattle.hir_session_machine.specs.Machine.AnswersPath.{finds, refuses_all}
 use Rattle.hir_session_machine.specs.Machine.Moves.{looks_for_path}
 use Rattle.hir_session_machine.specs.Machine.AnswersCommand.{calls, finds_no_memory}
 use Rattle.hir_session_machine.proofs.server_state.path_found.Goals as goal
 
-pub returns-in-Ok-in-Some : goal.returns-in-Ok-in-Some
-returns-in-Ok-in-Some c = record { step = calls _ _ refl (looks_for_path _ _ _ _ _ refl refl (leads _ c.in-Ok.ensures.found refl)) refl }
-
-pub returns-in-Ok-in-None : goal.returns-in-Ok-in-None
-returns-in-Ok-in-None c = record { step = calls _ _ refl (looks_for_path _ _ _ _ _ refl refl (finds_none refl)) refl }
+pub returns-in-Ok : goal.returns-in-Ok
+returns-in-Ok c = record { step = calls _ _ refl (looks_for_path _ _ _ _ _ refl refl (finds _ c.in-Ok.ensures.best c.in-Ok.ensures.leads refl)) refl }
 
 pub returns-in-Err : goal.returns-in-Err
 returns-in-Err c = record {
