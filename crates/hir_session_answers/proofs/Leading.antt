@@ -1,6 +1,10 @@
 -- A path that names a definition, by the search, is answered that definition at the place; and the other way round.
-use Rattle.std.specs.Prelude.{◌≡◌, ℕ, ◌≤◌, min, Bool, true, false, is_some, length, Option, None, Some, option_and_then, Ok}
+use Rattle.std.specs.Prelude.{◌≡◌, ℕ, ◌<◌, ◌≤◌, min, IfSome, Bool, true, false, is_some, length, Option, None, Some, option_and_then, Ok}
 use Rattle.std.proofs.Common.{ap, arith, refl, subst, sym, ◌∙◌}
+use Rattle.std.proofs.lemmas.Cmp.{ranked}
+use Rattle.std.specs.Ordering.{MatchOrdering, is_lt, nat_cmp, ordering_then}
+use Rattle.std.specs.declared.cmp.Ordering.{Ordering}
+use Rattle.std.specs.declared.cmp.Ordering.TheVariants.{Equal, Greater, Less}
 use Rattle.hir_session_state.specs.HirBase.ModPath.{Path}
 use Rattle.hir_session_state.specs.HirBase.Place.{PlaceValue}
 use Rattle.hir_session_state.specs.HirBase.declared.mod_path.PathKind.{PathKind}
@@ -33,14 +37,14 @@ use Rattle.hir_session_state.specs.HirMessages.declared.command.Shadow.TheVarian
 use Rattle.hir_session_state.specs.HirMessages.declared.reply.Status.TheVariants as status
 use Rattle.hir_session_state.specs.SessionState.{SessionState, Resolution, kept_of, module_of, read_of, IsSound}
 use Rattle.hir_session_state.specs.HirTables.Tables.{TablesValue}
-use Rattle.hir_path_search.specs.Finding.{IsBest, may_begin}
-use Rattle.hir_path_search.specs.Judging.{named_in, whole_by, whole_items}
+use Rattle.hir_path_search.specs.Finding.{IsBest, IsCandidate, Names, may_begin}
+use Rattle.hir_path_search.specs.Judging.{named_in, supers_of, whole_by, whole_items}
 use Rattle.hir_path_search.specs.declared.sought.Named.{Named}
 use Rattle.hir_session_answers.specs.Answers.{answer_in, answer_of, asking_of, named_by}
 use Rattle.hir_session_answers.specs.AnswersStand.{AnswersStand}
 use Rattle.hir_session_answers.specs.LeavesOut.{LeavesNothingOut}
 use Rattle.hir_session_answers.specs.PathsTo.{answered_in, at_most, begins_so, is_definition, is_item_of, is_sought, is_whole, namespace_of}
-use Rattle.hir_session_answers.specs.PathsTo.{names_definition, prefix_of, FindsBest, FindsOver, LeadsTo}
+use Rattle.hir_session_answers.specs.PathsTo.{names_definition, prefix_of, FindsBest, FindsOver, IsShortest, LeadsTo}
 use Rattle.hir_session_answers.specs.SourceItems.{answered_macro, answered_type, answered_value, definition_of, together}
 use Rattle.hir_session_answers.specs.Status.{status_of}
 use Rattle.hir_session_answers.proofs.Stand.{answer_of-current, given, stands, stands_at}
@@ -54,6 +58,13 @@ together_is def None i v there is = absurd (let wrong : ⊥ = cc is in wrong)
 together_is def (Some d) None v there is = absurd (let wrong : ⊥ = cc there in wrong)
 together_is def (Some d) (Some i) None there is = absurd (let wrong : ⊥ = cc there in wrong)
 together_is def (Some d) (Some i) (Some v) there is = is
+
+together_of : (def : Definition) (d : Option Definition) (i : Option (Option ImportSource)) (v : Option AnswerVisibility)
+    → is_item_of def (together d i v) ≡ true → is_definition def d ≡ true
+together_of def None i v is = absurd (let wrong : ⊥ = cc is in wrong)
+together_of def (Some d) None v is = absurd (let wrong : ⊥ = cc is in wrong)
+together_of def (Some d) (Some i) None is = absurd (let wrong : ⊥ = cc is in wrong)
+together_of def (Some d) (Some i) (Some v) is = is
 
 module _ (tables : TablesValue) (maps : Maps) (def : Definition) where
   type_is : (o : Option (Item ModuleDefId ImportOrExternCrate)) (named : Named)
@@ -103,6 +114,61 @@ module _ (tables : TablesValue) (maps : Maps) (def : Definition) where
           ∙ item_is ns r named all (ap (λ (x : PerNs). named_in (namespace_of ns) x) same ∙ is) sought
       go (Some i) stop e = absurd (let wrong : ⊥ = cc e in wrong)
 
+  -- what is answered to be a definition is sought
+  pub record IsSoughtIn (found : Option Named) : Type 0 where
+    pub named : Named
+    pub is : found ≡ Some named
+    pub sought : is_sought tables maps def named.def ≡ true
+
+  type_sought : (o : Option (Item ModuleDefId ImportOrExternCrate)) → is_item_of def (option_and_then (answered_type tables maps) o) ≡ true
+      → IsSoughtIn (named_in (namespace_of namespace.Types) (record { types = o; values = None; macros = None }))
+  type_sought None h = absurd (let wrong : ⊥ = cc h in wrong)
+  type_sought (Some item) h = record {
+    named = record { def = item.def; imported = is_some item.import };
+    is = refl;
+    sought = together_of def (definition_of tables maps item.def) _ _ h;
+  }
+
+  value_sought : (o : Option (Item ModuleDefId ImportOrGlob)) → is_item_of def (option_and_then (answered_value tables maps) o) ≡ true
+      → IsSoughtIn (named_in (namespace_of namespace.Values) (record { types = None; values = o; macros = None }))
+  value_sought None h = absurd (let wrong : ⊥ = cc h in wrong)
+  value_sought (Some item) h = record {
+    named = record { def = item.def; imported = is_some item.import };
+    is = refl;
+    sought = together_of def (definition_of tables maps item.def) _ _ h;
+  }
+
+  macro_sought : (o : Option (Item MacroId ImportOrExternCrate)) → is_item_of def (option_and_then (answered_macro tables maps) o) ≡ true
+      → IsSoughtIn (named_in (namespace_of namespace.Macros) (record { types = None; values = None; macros = o }))
+  macro_sought None h = absurd (let wrong : ⊥ = cc h in wrong)
+  macro_sought (Some item) h = record {
+    named = record { def = names.MacroId item.def; imported = is_some item.import };
+    is = refl;
+    sought = together_of def (definition_of tables maps (names.MacroId item.def)) _ _ h;
+  }
+
+  item_sought : (ns : Namespace) (r : ResolvePathResult) → is_item_of def (answered_in ns (named_by tables maps r)) ≡ true
+      → IsSoughtIn (named_in (namespace_of ns) r.resolved_def)
+  item_sought namespace.Types r h = type_sought r.resolved_def.types h
+  item_sought namespace.Values r h = value_sought r.resolved_def.values h
+  item_sought namespace.Macros r h = macro_sought r.resolved_def.macros h
+
+  pub record IsWholly (ns : Namespace) (r : ResolvePathResult) : Type 0 where
+    pub whole : whole_items r ≡ Some r.resolved_def
+    pub item : IsSoughtIn (named_in (namespace_of ns) r.resolved_def)
+
+  pub asks_for_it : (ns : Namespace) (r : ResolvePathResult) → names_definition ns (named_by tables maps r) def ≡ true → IsWholly ns r
+  asks_for_it ns r h = go r.segment_index refl
+    where
+      go : (o : Option ℕ) → r.segment_index ≡ o → IsWholly ns r
+      go None stop = record {
+        whole = ap (λ (o : Option ℕ). whole_by o r.resolved_def) stop;
+        item = item_sought ns r (ap (λ (o : Option ℕ). is_whole o (is_item_of def (answered_in ns (named_by tables maps r)))) (sym stop) ∙ h);
+      }
+      go (Some i) stop =
+          let none : false ≡ true = ap (λ (o : Option ℕ). is_whole o (is_item_of def (answered_in ns (named_by tables maps r)))) (sym stop) ∙ h in
+          absurd (let wrong : ⊥ = cc none in wrong)
+
 -- ---- a path
 
 begins : (p : PathPrefix) (kind : PathKind) → may_begin (prefix_of p) kind ≡ true → begins_so p kind ≡ true
@@ -116,6 +182,18 @@ begins prefix.Crate (kinds.Super n) h = h
 begins prefix.Crate kinds.Crate h = refl
 begins prefix.Crate kinds.Abs h = refl
 begins prefix.Crate (kinds.DollarCrate c) h = h
+
+may_start : (p : PathPrefix) (kind : PathKind) → begins_so p kind ≡ true → may_begin (prefix_of p) kind ≡ true
+may_start prefix.Plain kinds.Plain h = refl
+may_start prefix.Plain (kinds.Super n) h = refl
+may_start prefix.Plain kinds.Crate h = refl
+may_start prefix.Plain kinds.Abs h = refl
+may_start prefix.Plain (kinds.DollarCrate c) h = h
+may_start prefix.Crate kinds.Plain h = h
+may_start prefix.Crate (kinds.Super n) h = h
+may_start prefix.Crate kinds.Crate h = refl
+may_start prefix.Crate kinds.Abs h = refl
+may_start prefix.Crate (kinds.DollarCrate c) h = h
 
 least : (n most : ℕ) → n ≤ min most 64 → n ≤ most
 least n most h = arith
@@ -172,3 +250,63 @@ module _ (s : SessionState) (place : PlaceValue) (def : Definition) (ns : Namesp
         names = answers_it s.tables maps def ns resolved best.best.names.items best.best.names.named
         (whole_over (stands runs answers lead s place path shadow.Other None told sound is)) best.best.names.whole best.best.names.is best.best.names.sought;
       }
+
+-- ---- no path that leads there is shorter
+
+-- what comes no earlier has no fewer segments
+no_fewer : (x y : ℕ) (others : Ordering) → is_lt (ordering_then (nat_cmp x y) others) ≡ false → y ≤ x
+no_fewer x y others h = go (nat_cmp x y) (ranked x y (nat_cmp x y) refl) h
+  where
+    go : (r : Ordering) → MatchOrdering r (x < y) (x ≡ y) (y < x) → is_lt (ordering_then r others) ≡ false → y ≤ x
+    go Less below h = absurd (let wrong : ⊥ = cc h in wrong)
+    go Equal same h = omega (arith, same)
+    go Greater above h = omega (arith, above)
+
+module _ (s : SessionState) (place : PlaceValue) (def : Definition) (ns : Namespace) (p : PathPrefix) (most : ℕ) (current : status.Current ≡ status_of s place)
+    (m : ModuleId) (r : Resolution) (named : module_of s place ≡ Some m) (kept : kept_of s m.map ≡ Some r) where
+  abbrev over : Maps
+  over = overlay (read_of s m.map) r.map
+
+  abbrev asked : Path → ResolvePathResult
+  asked path = resolution_of over (asking_of r.local shadow.Other None) m path
+
+  candidate : (other : Path) → supers_of other.kind ≤ 255 → LeadsTo s place def ns p (at_most most) other → IsCandidate (prefix_of p) (at_most most) other
+  candidate other few lead = record { begins = may_start p other.kind lead.begins; levels = few; within = lead.within }
+
+  named_whole : (other : Path) → LeadsTo s place def ns p (at_most most) other → IsWholly s.tables over def ns (asked other)
+  named_whole other lead =
+      let is : answer_of s place other shadow.Other None ≡ Ok (named_by s.tables over (asked other)) =
+      answer_of-current s place other shadow.Other None current (given s place other shadow.Other None m r over _ named kept refl refl) in
+      let same : lead.answer ≡ named_by s.tables over (asked other) = let both : Ok lead.answer ≡ Ok (named_by s.tables over (asked other)) = sym lead.answered ∙ is in cc in
+      asks_for_it s.tables over def ns (asked other) (ap (λ (a : Answer). names_definition ns a def) (sym same) ∙ lead.names)
+
+  names : (other : Path) (is : IsWholly s.tables over def ns (asked other))
+      → Names over r.local m (is_sought s.tables over def) (namespace_of ns) other is.item.named.imported
+  names other is = record {
+    items = (asked other).resolved_def;
+    whole = is.whole;
+    named = is.item.named;
+    is = is.item.is;
+    sought = is.item.sought;
+    by_import = refl;
+  }
+
+  pub shortest_over : (found : Option Path) → FindsOver s.tables over r.local m def ns p most found → IsShortest s place def ns p most found
+  shortest_over None absent = λ other few lead.
+      let is = named_whole other lead in absent other is.item.named.imported (candidate other few lead) (names other is)
+  shortest_over (Some path) best = λ other few lead.
+      let is = named_whole other lead in
+      no_fewer (length other.segments) (length path.segments) _ (best.first other is.item.named.imported (candidate other few lead) (names other is))
+
+-- where something is found, or nothing, nothing that leads there is shorter
+pub shortest : (s : SessionState) (place : PlaceValue) (def : Definition) (ns : Namespace) (p : PathPrefix) (most : ℕ) (found : Option Path)
+    → status.Current ≡ status_of s place → FindsBest s place def ns p most found → IsShortest s place def ns p most found
+shortest s place def ns p most found current best =
+    shortest_over s place def ns p most current best.asked_from best.over best.named best.stands.kept found best.best
+
+-- in a sound session what is found leads to the definition
+pub leads_found : RunsBindFromSources → PathsAnswerFromSources → PathsLeadToWhatIsThere → (s : SessionState) (place : PlaceValue) (def : Definition)
+    (ns : Namespace) (p : PathPrefix) (most : ℕ) (found : Option Path) → IsSound s → status.Current ≡ status_of s place
+    → FindsBest s place def ns p most found → IfSome found (LeadsTo s place def ns p most)
+leads_found runs answers lead s place def ns p most None sound current best = tt
+leads_found runs answers lead s place def ns p most (Some path) sound current best = leads s place def ns p most path best runs answers lead sound current

@@ -15,6 +15,7 @@ use Rattle.hir_session_state.specs.HirDefMapRules.State.{Local}
 use Rattle.hir_path_search.specs.declared.search.PathPrefix.{PathPrefix as SearchedPrefix}
 use Rattle.hir_path_search.specs.declared.search.PathPrefix.TheVariants as begins
 use Rattle.hir_path_search.specs.Finding.{Finds}
+use Rattle.hir_path_search.specs.Judging.{supers_of}
 use Rattle.hir_session_state.specs.HirTables.Tables.{TablesValue}
 use Rattle.hir_session_state.specs.HirMessages.contracts.answer.DefinitionPartialEq.TheImpl as definitions
 use Rattle.hir_session_state.specs.HirMessages.declared.answer.Answer.{Answer}
@@ -128,3 +129,10 @@ AreRefusedOver s place why = (path : Path) → answer_kept s place path shadow.O
 -- no path is answered at a place, and this is told instead
 abbrev pub AreRefused : SessionState → PlaceValue → QueryError → Type 0
 AreRefused s place why = (path : Path) → answer_of s place path shadow.Other None ≡ Err why
+
+-- no path that leads to a definition is shorter than the one that is found, and where none is found none leads there
+abbrev pub IsShortest : SessionState → PlaceValue → Definition → Namespace → PathPrefix → ℕ → Option Path → Type 0
+IsShortest s place def ns prefix most None =
+    (other : Path) → supers_of other.kind ≤ 255 → LeadsTo s place def ns prefix (at_most most) other → ⊥
+IsShortest s place def ns prefix most (Some path) =
+    (other : Path) → supers_of other.kind ≤ 255 → LeadsTo s place def ns prefix (at_most most) other → length path.segments ≤ length other.segments

@@ -19,7 +19,7 @@ ghost use Rattle.hir_session_answers.specs.TreeText.{tree_text_of};
 ghost use Rattle.hir_session_answers.specs.Modules.{file_modules_of, modules_in, modules_of};
 ghost use Rattle.hir_session_answers.specs.Names.{names_kept, names_of};
 ghost use Rattle.hir_session_answers.specs.NamesStand.{NamesStand};
-ghost use Rattle.hir_session_answers.specs.PathsTo.{AreRefused, AreRefusedOver, FindsBest, LeadsTo};
+ghost use Rattle.hir_session_answers.specs.PathsTo.{AreRefused, AreRefusedOver, FindsBest, IsShortest, LeadsTo};
 
 use super::Session;
 use hir_base::file_path::FilePath;
@@ -265,6 +265,7 @@ impl Session {
         most: u32,
     ) -> Result<Option<ModPath>, QueryError>
         ensures best { IfOk result (FindsBest self.now place.now definition.now namespace prefix most) }
+        ensures shortest { IfOk result (IsShortest self.now place.now definition.now namespace prefix most) }
         ensures leads { IfOk result (λ found. IfSome found (LeadsTo self.now place.now definition.now namespace prefix most)) }
         ensures refused { IfErr result (λ e. IsQueryMemory e ⊎ AreRefused self.now place.now e) }
     {
