@@ -234,7 +234,7 @@ module _ (s : SessionState) (place : PlaceValue) (def : Definition) (ns : Namesp
       let m_is : stand.asked_from ≡ best.asked_from = same_module stand.asked_from stand.named in
       let r_is : stand.found ≡ best.over = same_kept stand.found (ap (λ (m : ModuleId). kept_of s m.map) (sym m_is) ∙ stand.stands.kept) in
       subst (λ (x : ModuleId × Resolution).
-          LeavesNothingOut (resolution_of (overlay (read_of s x.0.map) x.1.map) (asking_of x.1.local shadow.Other None) x.0 path).resolved_def told)
+      LeavesNothingOut (resolution_of (overlay (read_of s x.0.map) x.1.map) (asking_of x.1.local shadow.Other None) x.0 path).resolved_def told)
       (λ i. (m_is i, r_is i)) stand.whole
 
   pub leads : RunsBindFromSources → PathsAnswerFromSources → PathsLeadToWhatIsThere → IsSound s → status.Current ≡ status_of s place
@@ -248,7 +248,7 @@ module _ (s : SessionState) (place : PlaceValue) (def : Definition) (ns : Namesp
         answer = told;
         answered = is;
         names = answers_it s.tables maps def ns resolved best.best.names.items best.best.names.named
-        (whole_over (stands runs answers lead s place path shadow.Other None told sound is)) best.best.names.whole best.best.names.is best.best.names.sought;
+            (whole_over (stands runs answers lead s place path shadow.Other None told sound is)) best.best.names.whole best.best.names.is best.best.names.sought;
       }
 
 -- ---- no path that leads there is shorter

@@ -205,7 +205,7 @@ pub record Headline (lines : List (List ℕ)) (answers : List Reply) (last : Mac
   pub finds_paths : (n : ℕ) (place : PlaceValue) (def : Definition) (ns : Namespace) (prefix : PathPrefix) (most : ℕ) (found : Option Path)
       → Gives lines n (path_to place def ns prefix most) → slice_get answers n ≡ Some (reply.Path found)
       → HoldsIn first_state lines answers last done n
-        (λ s. FindsBest s place def ns prefix most found × IfSome found (LeadsTo s place def ns prefix most))
+      (λ s. FindsBest s place def ns prefix most found × IfSome found (LeadsTo s place def ns prefix most))
   -- so are the modules of a crate, and those that a file is
   pub lists_modules : (n : ℕ) (krate : Crate) (told : List PlaceValue) → Gives lines n (crate_modules krate) → slice_get answers n
       ≡ Some (reply.Places told)

@@ -270,9 +270,7 @@ impl Session {
         ensures refused { IfErr result (λ e. IsQueryMemory e ⊎ AreRefused self.now place.now e) }
     {
         match self.status(place) {
-            Status::Current => {
-                self.path_kept(alloc, place, definition, namespace, prefix, most)
-            }
+            Status::Current => { self.path_kept(alloc, place, definition, namespace, prefix, most) }
             Status::Stale => Err(QueryError::StalePlace),
             Status::Unknown => Err(QueryError::UnknownPlace),
         }
