@@ -15,3 +15,4 @@ pub mod Placing
 pub mod Naming
 pub mod Refused
 pub mod Leading
+pub mod Elsewhere
