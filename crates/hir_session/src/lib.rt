@@ -26,8 +26,13 @@ pub use hir_session_machine::hir_session_core::hir_session_state::error::{
     DiagnosticsError, EditError, ImplItemsError, ModulesError, NewSessionError, QueryError,
     RefreshError, TraitItemsError, TreeTextError,
 };
-pub use hir_session_machine::hir_wire::answer::Answer;
-pub use hir_session_machine::hir_wire::command::{CrateInput, MacroStyle, Shadow};
+pub use hir_session_machine::hir_wire::answer::{
+    Answer, AnswerItem, Definition, ItemSource, SourceCall, SourceCallKind, SourceCalls,
+    SourceItem, SourceKind, SourceRoot,
+};
+pub use hir_session_machine::hir_wire::command::{
+    CrateInput, MacroStyle, Namespace, PathPrefix, Shadow,
+};
 pub use hir_session_machine::hir_wire::diagnostic::{Diagnostic, DiagnosticKind};
 pub use hir_session_machine::hir_wire::edit::{CallKey, Edit, ExpansionEntry};
 pub use hir_session_machine::hir_wire::items::{AssocItem, Items};
