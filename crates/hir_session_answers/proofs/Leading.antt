@@ -196,7 +196,7 @@ may_start prefix.Crate kinds.Abs h = refl
 may_start prefix.Crate (kinds.DollarCrate c) h = h
 
 least : (n most : ℕ) → n ≤ min most 64 → n ≤ most
-least n most h = arith
+least n most h = omega (arith, h)
 
 -- in a sound session what is found over what is kept stands on the present sources
 pub finds_best : (s : SessionState) (place : PlaceValue) (def : Definition) (ns : Namespace) (p : PathPrefix) (most : ℕ) (found : Option Path) (m : ModuleId)
@@ -280,9 +280,9 @@ module _ (s : SessionState) (place : PlaceValue) (def : Definition) (ns : Namesp
       let same : lead.answer ≡ named_by s.tables over (asked other) = let both : Ok lead.answer ≡ Ok (named_by s.tables over (asked other)) = sym lead.answered ∙ is in cc in
       asks_for_it s.tables over def ns (asked other) (ap (λ (a : Answer). names_definition ns a def) (sym same) ∙ lead.names)
 
-  names : (other : Path) (is : IsWholly s.tables over def ns (asked other))
+  named_so : (other : Path) (is : IsWholly s.tables over def ns (asked other))
       → Names over r.local m (is_sought s.tables over def) (namespace_of ns) other is.item.named.imported
-  names other is = record {
+  named_so other is = record {
     items = (asked other).resolved_def;
     whole = is.whole;
     named = is.item.named;
@@ -293,10 +293,10 @@ module _ (s : SessionState) (place : PlaceValue) (def : Definition) (ns : Namesp
 
   pub shortest_over : (found : Option Path) → FindsOver s.tables over r.local m def ns p most found → IsShortest s place def ns p most found
   shortest_over None absent = λ other few lead.
-      let is = named_whole other lead in absent other is.item.named.imported (candidate other few lead) (names other is)
+      let is = named_whole other lead in absent other is.item.named.imported (candidate other few lead) (named_so other is)
   shortest_over (Some path) best = λ other few lead.
       let is = named_whole other lead in
-      no_fewer (length other.segments) (length path.segments) _ (best.first other is.item.named.imported (candidate other few lead) (names other is))
+      no_fewer (length other.segments) (length path.segments) _ (best.first other is.item.named.imported (candidate other few lead) (named_so other is))
 
 -- where something is found, or nothing, nothing that leads there is shorter
 pub shortest : (s : SessionState) (place : PlaceValue) (def : Definition) (ns : Namespace) (p : PathPrefix) (most : ℕ) (found : Option Path)
