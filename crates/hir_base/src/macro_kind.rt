@@ -54,8 +54,9 @@ pub struct MacroText {
 #[derive(Debug, Drop, PartialEq, Eq, PartialOrd, Ord, Hash)]
 pub struct ExpansionKey {
     pub caller: Crate,
-    pub called: MacroText,
-    pub call: CallStyle,
+    // Before the text of the macro, which many calls share: inputs tell most keys apart within a few bytes.
     pub input: Text,
+    pub call: CallStyle,
+    pub called: MacroText,
     pub reached: Vec<MacroText>,
 }

@@ -54,42 +54,42 @@ ties R S a b = sym (both_tied (is_at (R a) b) (is_at (S a) b) (R a b) (S a b) re
 abbrev by_reached : ExpansionValue → ExpansionValue → Ordering
 by_reached = on (λ e. e.reached) (slice_cmp text_order.ghosts.cmp)
 
-abbrev by_input : ExpansionValue → ExpansionValue → Ordering
-by_input = then_cmp (on (λ e. e.input) (slice_cmp nat_cmp)) by_reached
+abbrev by_called : ExpansionValue → ExpansionValue → Ordering
+by_called = then_cmp (on (λ e. e.called) text_order.ghosts.cmp) by_reached
 
 abbrev by_call : ExpansionValue → ExpansionValue → Ordering
-by_call = then_cmp (on (λ e. e.call) style_order.ghosts.cmp) by_input
+by_call = then_cmp (on (λ e. e.call) style_order.ghosts.cmp) by_called
 
-abbrev by_called : ExpansionValue → ExpansionValue → Ordering
-by_called = then_cmp (on (λ e. e.called) text_order.ghosts.cmp) by_call
+abbrev by_input : ExpansionValue → ExpansionValue → Ordering
+by_input = then_cmp (on (λ e. e.input) (slice_cmp nat_cmp)) by_call
 
 expansions_total : IsTotalOrder expansion_cmp
 expansions_total =
     then_total (on_total (λ (e : ExpansionValue). e.caller) crates_total)
-    (then_total (on_total (λ (e : ExpansionValue). e.called) macros_total)
+    (then_total (on_total (λ (e : ExpansionValue). e.input) nat_list_cmp_total)
     (then_total (on_total (λ (e : ExpansionValue). e.call) styles_total)
-    (then_total (on_total (λ (e : ExpansionValue). e.input) nat_list_cmp_total) (on_total (λ (e : ExpansionValue). e.reached) (lists_total macros_total)))))
+    (then_total (on_total (λ (e : ExpansionValue). e.called) macros_total) (on_total (λ (e : ExpansionValue). e.reached) (lists_total macros_total)))))
 
 same_expansion : (a b : ExpansionValue) → is_at (expansion_cmp a) b ≡ true → a ≡ b
 same_expansion a b e =
-    let all = sym (ties (on (λ (v : ExpansionValue). v.caller) crate_order.ghosts.cmp) by_called a b) ∙ e in
-    let called = sym (ties (on (λ (v : ExpansionValue). v.called) text_order.ghosts.cmp) by_call a b) ∙ second_so
-    (is_at (crate_order.ghosts.cmp a.caller) b.caller) (is_at (by_called a) b) all in
-    let call = sym (ties (on (λ (v : ExpansionValue). v.call) style_order.ghosts.cmp) by_input a b) ∙ second_so
-    (is_at (text_order.ghosts.cmp a.called) b.called) (is_at (by_call a) b) called in
-    let input = sym (ties (on (λ (v : ExpansionValue). v.input) (slice_cmp nat_cmp)) by_reached a b) ∙ second_so (is_at (style_order.ghosts.cmp a.call) b.call)
-    (is_at (by_input a) b) call in
+    let all = sym (ties (on (λ (v : ExpansionValue). v.caller) crate_order.ghosts.cmp) by_input a b) ∙ e in
+    let input = sym (ties (on (λ (v : ExpansionValue). v.input) (slice_cmp nat_cmp)) by_call a b) ∙ second_so
+    (is_at (crate_order.ghosts.cmp a.caller) b.caller) (is_at (by_input a) b) all in
+    let call = sym (ties (on (λ (v : ExpansionValue). v.call) style_order.ghosts.cmp) by_called a b) ∙ second_so (is_at (slice_cmp nat_cmp a.input) b.input)
+    (is_at (by_call a) b) input in
+    let called = sym (ties (on (λ (v : ExpansionValue). v.called) text_order.ghosts.cmp) by_reached a b) ∙ second_so
+    (is_at (style_order.ghosts.cmp a.call) b.call) (is_at (by_called a) b) call in
     λ i. record {
-      caller = equal_crate a.caller b.caller (first_so (is_at (crate_order.ghosts.cmp a.caller) b.caller) (is_at (by_called a) b) all) i;
+      caller = equal_crate a.caller b.caller (first_so (is_at (crate_order.ghosts.cmp a.caller) b.caller) (is_at (by_input a) b) all) i;
       called =
-          same_macro a.called b.called (macros_tie a.called b.called ∙ first_so (is_at (text_order.ghosts.cmp a.called) b.called) (is_at (by_call a) b) called)
+          same_macro a.called b.called (macros_tie a.called b.called ∙ first_so (is_at (text_order.ghosts.cmp a.called) b.called) (is_at (by_reached a) b) called)
           i;
-      call = same_style a.call b.call (styles_tie a.call b.call ∙ first_so (is_at (style_order.ghosts.cmp a.call) b.call) (is_at (by_input a) b) call) i;
+      call = same_style a.call b.call (styles_tie a.call b.call ∙ first_so (is_at (style_order.ghosts.cmp a.call) b.call) (is_at (by_called a) b) call) i;
       input =
-          (bytes_decides a.input b.input).0 (texts_ties a.input b.input ∙ first_so (is_at (slice_cmp nat_cmp a.input) b.input) (is_at (by_reached a) b) input)
+          (bytes_decides a.input b.input).0 (texts_ties a.input b.input ∙ first_so (is_at (slice_cmp nat_cmp a.input) b.input) (is_at (by_call a) b) input)
           i;
       reached = same_macros a.reached b.reached (lists_ties text_order.ghosts.cmp macros_tie a.reached b.reached
-          ∙ second_so (is_at (slice_cmp nat_cmp a.input) b.input) (is_at (by_reached a) b) input) i;
+          ∙ second_so (is_at (text_order.ghosts.cmp a.called) b.called) (is_at (by_reached a) b) called) i;
     }
 
 pub exact_expansions : IsExact expansion_cmp

@@ -15,14 +15,14 @@ use Rattle.hir_collector_rules.specs.Workspace.{EntryLook}
 use Rattle.hir_collector_rules.specs.Keys.{absent_entry}
 use Rattle.hir_messages.specs.Edits.{EntryValue}
 
--- what one expansion depends on is before what another does by its caller, then by the macro, by how that is called, by
--- the input, and by the macros that the input reaches
+-- what one expansion depends on is before what another does by its caller, then by the input, by how the macro is called,
+-- by the macro, and by the macros that the input reaches
 abbrev pub expansion_cmp : ExpansionValue → ExpansionValue → Ordering
 expansion_cmp =
     then_cmp (on (λ e. e.caller) crate_order.ghosts.cmp)
-    (then_cmp (on (λ e. e.called) text_order.ghosts.cmp)
+    (then_cmp (on (λ e. e.input) (slice_cmp nat_cmp))
     (then_cmp (on (λ e. e.call) style_order.ghosts.cmp)
-    (then_cmp (on (λ e. e.input) (slice_cmp nat_cmp)) (on (λ e. e.reached) (slice_cmp text_order.ghosts.cmp)))))
+    (then_cmp (on (λ e. e.called) text_order.ghosts.cmp) (on (λ e. e.reached) (slice_cmp text_order.ghosts.cmp)))))
 
 -- the expansions that are there, as they were handed in, in the order of what they depend on
 abbrev pub Entries : Type 0

@@ -138,19 +138,19 @@ exact_macro a b e = λ i. record {
 
 exact_key : (a b : ExpansionKey) → key_eq.ghosts.eq a b ≡ true → expansion_value a ≡ expansion_value b
 exact_key a b e =
-    let called = macro_eq.ghosts.eq a.called b.called in
-    let call = style_eq.ghosts.eq a.call b.call in
     let input = pointwise nat_eq a.input b.input in
+    let call = style_eq.ghosts.eq a.call b.call in
+    let called = macro_eq.ghosts.eq a.called b.called in
     let reached = pointwise macro_eq.ghosts.eq a.reached.items b.reached.items in
-    let from_called = second_so (nat_eq a.caller.0 b.caller.0) (called && (call && (input && reached))) e in
-    let from_call = second_so called (call && (input && reached)) from_called in
-    let from_input = second_so call (input && reached) from_call in
+    let from_input = second_so (nat_eq a.caller.0 b.caller.0) (input && (call && (called && reached))) e in
+    let from_call = second_so input (call && (called && reached)) from_input in
+    let from_called = second_so call (called && reached) from_call in
     λ i. record {
-      caller = record { 0 = same_nat a.caller.0 b.caller.0 (first_so (nat_eq a.caller.0 b.caller.0) (called && (call && (input && reached))) e) i };
-      called = exact_macro a.called b.called (first_so called (call && (input && reached)) from_called) i;
-      call = exact_style a.call b.call (first_so call (input && reached) from_call) i;
-      input = (bytes_decides a.input b.input).0 (first_so input reached from_input) i;
-      reached = exact_list macro_eq.ghosts.eq exact_macro a.reached.items b.reached.items (second_so input reached from_input) i;
+      caller = record { 0 = same_nat a.caller.0 b.caller.0 (first_so (nat_eq a.caller.0 b.caller.0) (input && (call && (called && reached))) e) i };
+      called = exact_macro a.called b.called (first_so called reached from_called) i;
+      call = exact_style a.call b.call (first_so call (called && reached) from_call) i;
+      input = (bytes_decides a.input b.input).0 (first_so input (call && (called && reached)) from_input) i;
+      reached = exact_list macro_eq.ghosts.eq exact_macro a.reached.items b.reached.items (second_so called reached from_called) i;
     }
 
 -- ---- in both directions
@@ -172,8 +172,8 @@ decides_key a b = (
   exact_key a b,
   λ e.
       both_true ((unsigned_Decides a.caller.0 b.caller.0).1 (ap (λ (v : ExpansionValue). v.caller.0) e))
-      (both_true ((decided macro_eq.ghosts.eq macro_laws exact_macro a.called b.called).1 (ap (λ (v : ExpansionValue). v.called) e))
-      (both_true ((decided style_eq.ghosts.eq style_laws exact_style a.call b.call).1 (ap (λ (v : ExpansionValue). v.call) e))
       (both_true ((bytes_decides a.input b.input).1 (ap (λ (v : ExpansionValue). v.input) e))
+      (both_true ((decided style_eq.ghosts.eq style_laws exact_style a.call b.call).1 (ap (λ (v : ExpansionValue). v.call) e))
+      (both_true ((decided macro_eq.ghosts.eq macro_laws exact_macro a.called b.called).1 (ap (λ (v : ExpansionValue). v.called) e))
       ((pointwise_decides (decided macro_eq.ghosts.eq macro_laws exact_macro) a.reached.items b.reached.items).1 (ap (λ (v : ExpansionValue). v.reached) e))))),
 )
