@@ -14,7 +14,7 @@ Each session is run
 - and, drawn by the seed, with such lines alone, with its input cut anywhere, with a read that fails, with an output that is full
   after some bytes; or with requests for memory refused and nothing sent again: then the replies are those of the model to the lines
   that were taken, and the front of them where a read or a write fails besides.
-A session whose replies the model doesn't give in MODEL_SECONDS, as where an expansion holds two calls of itself, is passed over and
+A session whose replies the model doesn't give in MODEL_SECONDS of processor, as where an expansion holds two calls of itself, is passed over and
 counted. It prints what it has done each minute, writes each difference to standard error, and ends with 1 if there was one.
 """
 import argparse
@@ -311,11 +311,9 @@ class Soak:
 
     def soak(self, seed):
         self.seed = seed
-        signal.signal(signal.SIGALRM, endless)
-        signal.alarm(MODEL_SECONDS)
+        signal.setitimer(signal.ITIMER_VIRTUAL, MODEL_SECONDS)
         self.kind, lines, replies, commands, fresh = self.session(seed)
-        signal.alarm(0)
-        signal.signal(signal.SIGALRM, late)
+        signal.setitimer(signal.ITIMER_VIRTUAL, 0)
         drawn = random.Random(seed * 2 + 1)
         self.counts["sessions"] += 1
         self.ample(lines, replies, drawn)
@@ -368,6 +366,8 @@ def main():
     parser.add_argument("--kind", choices=KINDS)
     given = parser.parse_args()
     sys.setrecursionlimit(100000)
+    signal.signal(signal.SIGVTALRM, endless)
+    signal.signal(signal.SIGALRM, late)
     soak = Soak(program_of(given.program), given.kind)
     seed, said = given.seed, 0
     while soak.counts["sessions"] < given.sessions if given.sessions else time.time() - soak.began < given.minutes * 60:
