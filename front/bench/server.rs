@@ -75,6 +75,26 @@ impl Server {
     }
 }
 
+/// An item, and a line that looks it up. Both have a number for `#`.
+struct LookedUp {
+    what: &'static str,
+    looking: &'static str,
+    item: &'static str,
+}
+
+const LOOKED_UP: [LookedUp; 6] = [
+    LookedUp { what: "an import", looking: "use self::wanted_# as Wanted#;\n", item: "fn wanted_#() {}\n" },
+    LookedUp { what: "a macro call", looking: "self::called_#!();\n", item: "fn called_#() {}\n" },
+    LookedUp { what: "an attribute", looking: "#[self::marked_#] struct Marked#;\n", item: "fn marked_#() {}\n" },
+    LookedUp { what: "a derive", looking: "#[derive(self::Derived#)] struct Of#;\n", item: "trait Derived# {}\n" },
+    LookedUp { what: "a longer import", looking: "use self::Kind#::One as One#;\n", item: "enum Kind# { One }\n" },
+    LookedUp { what: "a call's longer path", looking: "self::Holder#::called!();\n", item: "struct Holder#;\n" },
+];
+
+fn numbered(text: &str, number: usize) -> String {
+    text.replace("#[", "\0").replace('#', &number.to_string()).replace('\0', "#[")
+}
+
 /// The most memory that a process has had, in megabytes.
 fn memory_of(process: u32) -> u64 {
     let text = std::fs::read_to_string(format!("/proc/{process}/status")).unwrap_or_default();
@@ -149,17 +169,17 @@ impl Opened<'_> {
         Ok(())
     }
 
-    /// Adds items below as many imports of them, one after the other.
-    fn imported(&mut self, place: &Value) -> Result<()> {
-        let imports = |it: usize| format!("use self::wanted_{it} as Wanted{it};\n");
-        self.change(place.clone(), place.clone(), &(0..self.cli.edits).map(imports).collect::<String>())?;
-        self.server.published()?;
+    /// Adds items above what looks them up, one after the other, and waits each time until that is published.
+    fn looked_up(&mut self, place: &Value, it: &LookedUp) -> Result<()> {
+        let lines = |text: &str| (0..self.cli.edits).map(|at| numbered(text, at)).collect::<Vec<String>>();
+        let (looking, items) = (lines(it.looking), lines(it.item));
+        self.change(place.clone(), place.clone(), &looking.concat())?;
         self.server.settle()?;
         let (mut times, mut of_processor) = (Vec::new(), [0.0; 2]);
-        for it in 0..self.cli.edits {
+        for item in &items {
             let before = self.processes.map(processor_of);
             let start = Instant::now();
-            self.change(place.clone(), place.clone(), &format!("fn wanted_{it}() {{}}\n"))?;
+            self.change(place.clone(), place.clone(), item)?;
             self.server.published()?;
             times.push(start.elapsed().as_secs_f64() * 1000.0);
             let after = self.processes.map(processor_of);
@@ -167,8 +187,18 @@ impl Opened<'_> {
             // What waits is handed in, so that each edit is one of what the program has.
             self.server.settle()?;
         }
-        told("an item is added that an import names, published", times, of_processor);
-        Ok(())
+        told(&format!("an item is added that {} looks up, published", it.what), times, of_processor);
+        let end = place["line"].as_u64().unwrap_or_default() + (looking.len() + items.len()) as u64;
+        self.change(place.clone(), json!({"line": end, "character": 0}), "")?;
+        self.server.settle()
+    }
+
+    /// Adds an item of each kind above an import of nothing.
+    fn added(&mut self, place: &Value) -> Result<()> {
+        self.published("an item is added that nothing names, published", place, &|it| {
+            format!("fn told_{it}() {{}}\n")
+        })?;
+        LOOKED_UP.iter().try_for_each(|it| self.looked_up(place, it))
     }
 
     /// Adds the import at a place above one of nothing, and takes it away again.
@@ -258,9 +288,8 @@ pub fn measure(cli: &Cli, path: &Path) -> Result<()> {
     opened.server.published()?;
     opened.published("a line in a body, published", &place(line), &|_| "\n".to_owned())?;
     let last = place(text.lines().count() + 2 * cli.edits);
-    opened.published("an item is added, published", &last, &|it| format!("fn told_{it}() {{}}\n"))?;
+    opened.added(&last)?;
     opened.published("an import is added, published", &last, &|it| format!("use self::Item{it}In3 as Told{it};\n"))?;
-    opened.imported(&last)?;
     opened.end()
 }
 
@@ -274,7 +303,11 @@ pub fn measure_file(cli: &Cli, path: &Path) -> Result<()> {
     opened.change(end.clone(), end.clone(), "use crate::nothing_of_this_name;\n")?;
     opened.server.published()?;
     opened.published("a line, published", &end, &|_| "\n".to_owned())?;
-    opened.published("an item that nothing names is added, published", &end, &|it| format!("fn told_{it}() {{}}\n"))?;
+    opened.added(&end)?;
+    opened.edits(
+        "an item is added, to the answer of a request",
+        &|it| json!({"range": {"start": end, "end": end}, "text": format!("pub fn added_{it}() {{}}\n")}),
+    )?;
     opened.added_and_taken_away(&end)?;
     let import = |it: usize| format!("{}\n", cli.import.replace(';', &format!(" as Told{it};")));
     opened.edits(

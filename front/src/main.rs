@@ -243,6 +243,19 @@ fn build_scripts<'a>(space: &'a Workspace, report: &Report) -> Vec<&'a str> {
     titles
 }
 
+/// What isn't read for what it is, but for files that have errors.
+fn unread(space: &Workspace) -> Option<String> {
+    let has_stub = space.crates.all.iter().any(|it| it.is_stub);
+    let is_open = |number: &usize| space.open_modules(*number as u32).next().is_some();
+    let open = (space.crates.of_std..space.crates.all.len()).filter(is_open);
+    let mut titles: Vec<&str> = open.map(|it| &*space.crates.all[it].title).collect();
+    titles.dedup();
+    let brought = format!("what procedural macros or build scripts bring in {}", titles.join(", "));
+    let all = [has_stub.then(|| space.crates.std.to_string()), (!titles.is_empty()).then_some(brought)];
+    let all: Vec<String> = all.into_iter().flatten().collect();
+    (!all.is_empty()).then(|| all.join("; "))
+}
+
 /// What is told besides diagnostics.
 fn summary(space: &Workspace, report: &Report) -> Vec<Part> {
     let counts = space.counts();
@@ -263,11 +276,8 @@ fn summary(space: &Workspace, report: &Report) -> Vec<Part> {
     }
     if report.unjudged > 0 {
         let count = plural(report.unjudged, "path");
-        let stub = match space.crates.all.iter().any(|it| it.is_stub) {
-            true => format!(": {}", space.crates.std),
-            false => String::new(),
-        };
-        text.push_str(&format!("note: not judged: {count} into what isn't read{stub}\n"));
+        let unread = unread(space).map_or(String::new(), |it| format!(": {it}"));
+        text.push_str(&format!("note: not judged: {count} into what isn't read{unread}\n"));
     }
     let scripts = build_scripts(space, report);
     if !scripts.is_empty() {

@@ -121,6 +121,7 @@ fn resolve_tells_what_a_path_names() {
         ("stops", &["resolve", "Order::nothing", "--at", "shop"]),
         ("dependency", &["resolve", "codec::Codec", "--json"]),
         ("nothing", &["resolve", "no::such"]),
+        ("into-stub", &["resolve", "std::collections::HashMap"]),
         ("no-module", &["resolve", "a", "--at", "crate::no"]),
         ("no-crate", &["resolve", "a", "--at", "nowhere::no"]),
         ("no-path", &["resolve", "a b"]),
@@ -497,6 +498,21 @@ fn attributes_under_conditions() {
         told.contains("`Rebate`") && told.contains("`traced` (2 uses)") && told.contains("`Codec` (3 uses)"),
         "{told}"
     );
+}
+
+/// What isn't judged since it may be in a file that a build script writes.
+#[test]
+fn names_that_a_build_script_may_bring() {
+    let folder = package(&[
+        ("build.rs", "fn main() {}\n"),
+        ("src/lib.rs", "mod made { include!(concat!(env!(\"OUT_DIR\"), \"/made.rs\")); }\npub use made::One;\n"),
+    ]);
+    let made = run(folder.path(), &["check", "--no-std"]);
+    let told = text(&made.stdout);
+    let because = "; what procedural macros or build scripts bring in one\n";
+    assert!(made.status.success(), "{told}");
+    assert!(told.contains("note: not judged: 1 path into what isn't read: a stub") && told.contains(because), "{told}");
+    assert!(told.contains("note: build scripts aren't run (one): "), "{told}");
 }
 
 /// What isn't a fault for the program, but is one of rustc's: a name that an item before it doesn't hold.

@@ -37,7 +37,7 @@ fn known([space, other]: &mut [Workspace; 2], path: &Path, text: &str, why: &str
     made
 }
 
-const ROOT: &str = "mod a;\nmod b;\npub mod c;\nmod d;\nmod e;\npub use a::f;\n\
+const ROOT: &str = "mod a;\nmod b;\npub mod c;\nmod d;\nmod e;\nmod g;\npub use a::f;\n\
     macro_rules! m { () => { pub struct M; pub use crate::a::Later as FromM; } }\nm!();\n\
     use crate::nothing;\nuse std::none::Such;\n";
 const A: &str = "pub fn f() {}\npub struct Later;\npub mod k { pub struct Deep; pub enum Way { Up, Down } }\n";
@@ -50,6 +50,12 @@ const D: &str = "use super::*;\nuse self::c::helper as other;\nuse super::super:
 const E: &str = "use crate::c::Coming;\npub use crate::a::Missing as Found;\nuse super::e::Found as Again;\n\
     mod inner { pub use super::*; }\nuse inner::Found as Within;\nuse crate::c::{Twofold, Twofold as Other};\n";
 
+const G: &str =
+    "called!();\ncrate::c::called_there!();\ncrate::c::Holding::held!();\nNearby::held!();\nstd::held!();\n\
+    #[crate::c::marked] fn of_attribute() {}\n#[derive(crate::c::Derived)] struct OfDerive;\n\
+    use crate::c::Kind::One;\npub use crate::c::Kind::{Two, Three as Third};\nuse super::g::Third as Again;\n\
+    use self::Own::Four;\nuse Lonely::Five;\n";
+
 const BY_NAMES: Option<KnownBy> = Some(KnownBy::Names);
 const BY_LOOK_UPS: Option<KnownBy> = Some(KnownBy::LookUps);
 const UNJUDGED: Option<KnownBy> = Some(KnownBy::Unjudged);
@@ -57,7 +63,7 @@ const BY_IMPORTS: Option<KnownBy> = Some(KnownBy::Imports);
 
 /// Each edit of what is behind the texts above: the file, what stands there, what comes in its place (behind the text
 /// where nothing stands there), and by what it is known what is told.
-const EDITS: [(&str, &str, &str, Option<KnownBy>); 65] = [
+const EDITS: [(&str, &str, &str, Option<KnownBy>); 85] = [
     // Names that stand nowhere else.
     ("c", "", "fn alone() {}\n", BY_NAMES),
     ("c", "pub fn helper() {}", "pub fn helper() {} pub struct Alone;", BY_NAMES),
@@ -129,24 +135,76 @@ const EDITS: [(&str, &str, &str, Option<KnownBy>); 65] = [
     ("d", "pub fn third() {}", "pub fn third() {} use crate::a::f as g;", BY_LOOK_UPS),
     ("b", "", "use crate::a::f as unknown;\n", None),
     ("b", "", "use crate::a::Later as Clone;\n", None),
+    // Items that are no macros, where macros are looked up.
+    ("g", "", "fn called() {}\n", BY_LOOK_UPS),
+    ("g", "", "struct called;\n", BY_LOOK_UPS),
+    ("lib", "", "fn m() {}\n", BY_LOOK_UPS),
+    ("c", "", "pub fn called_there() {}\n", BY_LOOK_UPS),
+    ("c", "", "pub struct marked;\n", BY_LOOK_UPS),
+    ("c", "", "pub trait Derived {}\n", BY_LOOK_UPS),
+    ("c", "", "pub struct Holding;\n", BY_IMPORTS),
+    ("c", "", "pub fn Holding() {}\n", BY_IMPORTS),
+    ("g", "", "enum Nearby { held }\n", BY_IMPORTS),
+    ("g", "", "trait Nearby {}\n", BY_IMPORTS),
+    ("g", "", "struct std;\n", None),
+    ("g", "", "use crate::a::f as called;\n", None),
+    // Enums whose variants imports alone look up.
+    ("c", "", "pub enum Kind { One, Two(u8), Three }\n", BY_IMPORTS),
+    ("c", "", "pub(crate) enum Kind { Three {}, Two, One, Four }\n", BY_IMPORTS),
+    ("g", "", "enum Own { Four }\n", BY_IMPORTS),
+    ("g", "", "enum Lonely { Five }\n", BY_IMPORTS),
+    ("c", "", "pub enum Kind { One, Two }\n", None),
+    ("c", "", "enum Kind { One, Two, Three }\n", None),
+    ("c", "", "pub struct Kind;\n", None),
+    ("g", "", "enum Own { Four }\nfn Four() {}\n", None),
 ];
 
 #[test]
 fn edits_that_change_nothing_of_what_is_told() {
-    let texts = [("lib", ROOT), ("a", A), ("b", B), ("c", C), ("d", D), ("e", E)];
+    let texts = [("lib", ROOT), ("a", A), ("b", B), ("c", C), ("d", D), ("e", E), ("g", G)];
     let files: Vec<(String, &str)> = texts.iter().map(|(name, text)| (format!("src/{name}.rs"), *text)).collect();
     let files: Vec<(&str, &str)> = files.iter().map(|(name, text)| (&**name, *text)).collect();
     let folder = package(&files);
     let mut spaces = [open(folder.path()), open(folder.path())];
+    let mut differ = Vec::new();
     for (name, from, to, wanted) in EDITS {
         let text = texts.iter().find(|it| it.0 == name).unwrap().1;
         let edited = if from.is_empty() { format!("{text}{to}") } else { text.replace(from, to) };
         assert_ne!(edited, text, "{to}");
         let path = folder.path().join(format!("src/{name}.rs")).canonicalize().unwrap();
         let why = format!("{name}: {from} {to}");
-        assert_eq!(known(&mut spaces, &path, &edited, &why), wanted, "{why}");
+        let made = known(&mut spaces, &path, &edited, &why);
+        if made != wanted {
+            differ.push(format!("{why}: {made:?}, not {wanted:?}"));
+        }
         let back = known(&mut spaces, &path, text, &format!("back from {why}"));
         assert!(back.is_none() || wanted.is_some(), "back from {why}");
+    }
+    assert!(differ.is_empty(), "{}", differ.join("\n"));
+}
+
+/// In edition 2015 paths of imports begin at the root.
+#[test]
+fn edits_in_the_old_edition() {
+    let manifest = "[package]\nname = \"one\"\nversion = \"0.1.0\"\nedition = \"2015\"\n[workspace]\n";
+    let (root, a) =
+        ("mod a;\nmod b {}\n", "use Own::Four;\nuse b::Kind::One;\nuse ::a::Other::Two;\nOther::held!();\n");
+    let folder = package(&[("Cargo.toml", manifest), ("src/lib.rs", root), ("src/a.rs", a)]);
+    let mut spaces = [open(folder.path()), open(folder.path())];
+    for (name, from, to, wanted) in [
+        ("a", "", "enum Own { Four }\n", None),
+        ("lib", "", "enum Own { Four }\n", None),
+        ("a", "", "enum Other { Two }\n", BY_IMPORTS),
+        ("a", "", "enum Other { Three }\n", None),
+        ("lib", "mod b {}", "mod b { pub enum Kind { One } }", BY_IMPORTS),
+        ("lib", "mod b {}", "mod b { enum Kind { One } }", None),
+    ] {
+        let text = if name == "a" { a } else { root };
+        let edited = if from.is_empty() { format!("{text}{to}") } else { text.replace(from, to) };
+        let path = folder.path().join(format!("src/{name}.rs")).canonicalize().unwrap();
+        let why = format!("{name}: {from} {to}");
+        assert_eq!(known(&mut spaces, &path, &edited, &why), wanted, "{why}");
+        known(&mut spaces, &path, text, &format!("back from {why}"));
     }
 }
 
@@ -160,7 +218,7 @@ const FILES: [&str; 6] = [
 ];
 
 /// What is written into files of the example at random.
-const LINES: [&str; 26] = [
+const LINES: [&str; 33] = [
     "pub fn more() {}",
     "pub struct More(u8);",
     "pub struct Order;",
@@ -187,6 +245,13 @@ const LINES: [&str; 26] = [
     "use shop::model::Order;",
     "fn f() { use crate::model::Order; }",
     "pub(crate) use codec as price;",
+    "more!();",
+    "crate::price::more!();",
+    "More::most!();",
+    "#[super::More] fn attributed() {}",
+    "#[derive(More, crate::price::Order)] struct Derived;",
+    "pub use crate::price::Price::Free as Gift;",
+    "use Price::Free as Given;",
 ];
 
 #[test]
@@ -226,8 +291,13 @@ fn random_line(others: &[String], number: usize, dice: &mut Dice) -> String {
     let mut one_of = |all: &[&'static str]| all[dice.below(all.len())];
     let visibility = one_of(&["pub ", "pub ", "pub ", "pub(crate) ", "pub(super) ", ""]);
     let (module, name) = (one_of(&MODULES), one_of(&NAMES));
-    let is_item = |it: &String| !it.contains("use ") && it.contains(name);
-    match one_of(&["struct", "tuple", "enum", "fn", "struct", "enum", "import", "named"]) {
+    let is_item = |it: &String| !it.contains("::") && it.contains(name);
+    let kinds = ["struct", "tuple", "enum", "fn", "struct", "enum", "import", "named", "variant", "call", "attribute"];
+    match one_of(&kinds) {
+        "variant" => format!("{visibility}use super::{module}::{name}::A as Variant{number};"),
+        "call" if number % 2 == 0 => format!("super::{module}::{name}!();"),
+        "call" => format!("super::{module}::{name}::called!();"),
+        "attribute" => format!("#[super::{module}::{name}] struct Attributed{number};"),
         "import" => format!("{visibility}use super::{module}::{name} as As{number};"),
         "named" => format!("{visibility}use crate::{module}::{name};"),
         _ if others.iter().any(is_item) => format!("{visibility}fn alone_{number}() {{}}"),
@@ -238,10 +308,10 @@ fn random_line(others: &[String], number: usize, dice: &mut Dice) -> String {
     }
 }
 
-/// The module and the name to which an import leads, if it is one of a name.
+/// The module and the name that an import or the path of a macro looks up, if it is one of a name.
 fn imported(line: &str) -> Option<(usize, String)> {
     let (module, rest) = line.split_once("::")?.1.split_once("::")?;
-    let name = rest.split([' ', ';']).next().filter(|it| *it != "*")?;
+    let name = rest.split([' ', ';', ':', '!', ']']).next().filter(|it| *it != "*")?;
     Some((MODULES.iter().position(|it| *it == module)?, name.to_owned()))
 }
 
@@ -264,7 +334,7 @@ fn random_edits_of_items_and_imports() {
         let mut spaces = [open(folder.path()), open(folder.path())];
         let mut watched = open_brief(folder.path());
         watched.report().unwrap();
-        for round in 0..25 {
+        for round in 0..40 {
             let imported: Vec<(usize, String)> = files.iter().flatten().filter_map(|it| imported(it)).collect();
             let mut at = dice.below(MODULES.len());
             if imported.is_empty() || dice.below(5) == 0 {
@@ -274,9 +344,15 @@ fn random_edits_of_items_and_imports() {
                 // An item that an import names comes, or goes where it is.
                 let (of, name) = &imported[dice.below(imported.len())];
                 at = *of;
-                match files[at].iter().position(|it| !it.contains("use ") && it.contains(&**name)) {
+                let is_item = |it: &String| !it.contains("::") && it.contains(&**name);
+                match files[at].iter().position(is_item) {
                     Some(line) => drop(files[at].remove(line)),
-                    None => files[at].push(format!("pub{} struct {name};", ["", "", "(crate)"][dice.below(3)])),
+                    None => {
+                        let visibility = ["", "", "(crate)"][dice.below(3)];
+                        let items = [format!("struct {name};"), format!("enum {name} {{ A }}")];
+                        let item = &items[dice.below(2)];
+                        files[at].push(format!("pub{visibility} {item}"));
+                    }
                 }
             }
             let (path, text) = (path(at).canonicalize().unwrap(), text(&files[at]));

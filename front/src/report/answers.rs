@@ -6,7 +6,7 @@ use anyhow::{bail, Context as _, Result};
 use serde::Serialize;
 use serde_json::Value;
 
-use super::{place_at, Place};
+use super::{place_at, prefixes, Place};
 use crate::question::{names_of, Context, Question};
 use crate::site::{is_local, modules_at, path_at, FoundPath};
 use crate::syntax::Item;
@@ -164,7 +164,7 @@ impl Workspace {
     /// Asks what a path names.
     pub fn answer(&mut self, question: Question) -> Result<Answer> {
         let found = self.meanings_of(&question, 0)?;
-        let Question { krate, place, path, .. } = question;
+        let Question { krate, place, path, context, .. } = question;
         let module = self.place_text(krate, &place);
         let (meanings, stopped_at) = match found {
             Ok(it) => it,
@@ -174,7 +174,18 @@ impl Workspace {
             Err(error) if error == "command" => bail!("`{path}` is no path"),
             Err(error) => bail!("the program can't answer: {error}"),
         };
-        Ok(Answer { module, path, meanings, stopped_at, notes: Vec::new() })
+        let mut notes = Vec::new();
+        if meanings.is_empty() && self.leads_into_stub(krate, &place, &path, context)? {
+            notes.push(format!("it leads into {}: what isn't in that isn't known", self.crates.std));
+        }
+        Ok(Answer { module, path, meanings, stopped_at, notes })
+    }
+
+    /// Whether a path goes on behind something of a crate for which a stub stands.
+    fn leads_into_stub(&mut self, krate: u32, place: &[Step], path: &str, context: Context) -> Result<bool> {
+        let before = prefixes(path, false).into_iter().filter(|it| it != path);
+        let lines: Vec<String> = before.map(|it| self.question_in(krate, place, &it, context)).collect();
+        Ok(self.ask_all(&lines)?.iter().any(|it| self.is_of_stub(&it["ok"]["types"]["def"])))
     }
 
     /// What a path names, or why the program refuses the question. So many aliases were followed.

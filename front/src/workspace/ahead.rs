@@ -1,9 +1,10 @@
 //! What is told of imports after an edit, before the program has it: those resolve whose paths end with the name of an item
-//! that comes, and those no longer do whose paths end with that of one that goes.
+//! that comes, or with a variant of it, and those no longer do whose paths end with the name of one that goes.
 //!
 //! Such a path leads to the module that gets or loses the item, to one that takes it by a glob, or to one in which such an
 //! import gives it a name. Where nothing else stands for the name in any of these, neither before nor then, and every
-//! look-up of it there is the end of an import that sees it, these imports are known, and all other look-ups end as before.
+//! look-up of it there is that of an import that sees it, these imports are known, and all other look-ups end as before.
+//! Those of macro calls, attributes and derives do: items are no macros, and no path leads through one to a macro.
 
 use std::collections::{BTreeMap, HashMap, HashSet};
 use std::path::Path;
@@ -13,7 +14,7 @@ use anyhow::Result;
 use serde_json::{json, Value};
 
 use super::files::{key_of, parse};
-use super::lookups::{Glob, Importing, Questions, Source};
+use super::lookups::{Glob, Importing, LookUp, Questions, Source, Use};
 use super::unnamed::{plain_names, Changed, Changes};
 use super::{Key, KnownBy, ModulePlace, Parsed, Seen, Sent, Workspace};
 use crate::question::Context;
@@ -44,11 +45,21 @@ struct Item<'a> {
     is_new: bool,
 }
 
+impl Item<'_> {
+    /// Whether it is an enum that comes with a variant of this name.
+    fn brings_variant(&self, name: &str) -> bool {
+        let mut variants = self.node["variants"].as_array().into_iter().flatten();
+        self.is_new && variants.any(|it| it["name"] == name)
+    }
+}
+
 /// What stands for a name where an item does that comes or goes.
 #[derive(Clone, PartialEq)]
 struct Standing {
     /// The number of the item.
     item: usize,
+    /// Whether it stands for a variant of the item.
+    is_variant: bool,
     /// Who sees it: all of these.
     seen: Vec<Seen>,
     /// How many nodes of the module write the name before the edit.
@@ -58,8 +69,8 @@ struct Standing {
 /// Names that stand for items, by their numbers.
 type Standings = Vec<(Named, Standing)>;
 
-/// Modules in which a name is looked up, each with the import whose path ends with it, if it is one.
-type LookedIn = Vec<(ModulePlace, Option<Importing>)>;
+/// Modules in which a name is looked up, each with what does that.
+type LookedIn = Vec<(ModulePlace, Use)>;
 
 /// The names that stand for items that come or go, and the imports whose paths end there.
 #[derive(Default)]
@@ -89,7 +100,8 @@ fn items<'a>(krate: u32, module: &[Step], changes: &Changes<'a>) -> Option<(Vec<
         let seen = vec![Seen::by(visibility, &place)?];
         let item = items.len();
         items.push(Item { node, is_new: *is_new });
-        standing.push(((place, name.to_owned()), Standing { item, seen, written: usize::from(!is_new) }));
+        let stands = Standing { item, is_variant: false, seen, written: usize::from(!is_new) };
+        standing.push(((place, name.to_owned()), stands));
         if !names.insert(name) {
             return None;
         }
@@ -146,7 +158,7 @@ impl Workspace {
             return Ok(None);
         };
         let edited = EditedFile { krate, key, now, sources, globs };
-        let Some(Followed { names, imports }) = self.follow_names(standing, &edited)? else {
+        let Some(Followed { names, imports }) = self.follow_names(&items, standing, &edited)? else {
             return Ok(None);
         };
         if !self.stand_for_nothing_else(&items, &names, &edited)? {
@@ -160,7 +172,7 @@ impl Workspace {
     }
 
     /// Follows names along globs and imports. None where something else than the end of an import looks one of them up.
-    fn follow_names(&mut self, from: Standings, edited: &EditedFile) -> Result<Option<Followed>> {
+    fn follow_names(&mut self, items: &[Item], from: Standings, edited: &EditedFile) -> Result<Option<Followed>> {
         let mut followed = Followed::default();
         let mut look_ups = HashMap::new();
         let mut due = from;
@@ -181,18 +193,28 @@ impl Workspace {
                 };
                 look_ups.insert(name.clone(), found);
             }
-            for (_, end) in look_ups[name].iter().filter(|it| it.0 == *place) {
-                let Some(end) = end.as_ref().filter(|it| !it.is_expanded) else {
+            for (_, used) in look_ups[name].iter().filter(|it| it.0 == *place) {
+                let (import, is_variant) = match used {
+                    Use::End(it) => (it, false),
+                    Use::Holder(it) => (it, true),
+                    // Behind an item that isn't a module no macro is found.
+                    Use::TowardsMacro => continue,
+                    Use::Other => return Ok(None),
+                };
+                let is_seen = standing.seen.iter().all(|it| it.at(import.krate, &import.module));
+                let Some(seen) = import.seen.clone().filter(|_| is_seen && !import.is_expanded) else {
                     return Ok(None);
                 };
-                let is_seen = standing.seen.iter().all(|it| it.at(end.krate, &end.module));
-                let Some(seen) = end.seen.clone().filter(|_| is_seen) else {
+                let variant = import.path.rsplit("::").next().filter(|_| is_variant);
+                if variant.is_some_and(|it| standing.is_variant || !items[standing.item].brings_variant(it)) {
                     return Ok(None);
-                };
-                let seen = standing.seen.iter().cloned().chain([seen]).collect();
-                let named = ((end.krate, end.module.clone()), end.binds.to_string());
-                due.push((named, Standing { item: standing.item, seen, written: 1 }));
-                followed.imports.push((end.clone(), standing.item));
+                }
+                // Variants are public.
+                let around = standing.seen.iter().filter(|_| !is_variant);
+                let (seen, item) = (around.cloned().chain([seen]).collect(), standing.item);
+                let stands = Standing { item, is_variant: is_variant || standing.is_variant, seen, written: 1 };
+                due.push((((import.krate, import.module.clone()), import.binds.to_string()), stands));
+                followed.imports.push((import.clone(), item));
             }
             for Glob { to, seen, .. } in edited.globs.iter().filter(|it| it.from == *place) {
                 if standing.seen.iter().all(|it| it.at(to.0, &to.1)) {
@@ -200,7 +222,7 @@ impl Workspace {
                         return Ok(None);
                     };
                     let seen = standing.seen.iter().cloned().chain([seen]).collect();
-                    due.push(((to.clone(), name.clone()), Standing { item: standing.item, seen, written: 0 }));
+                    due.push(((to.clone(), name.clone()), Standing { seen, written: 0, ..standing.clone() }));
                 }
             }
             followed.names.insert(named, standing);
@@ -215,15 +237,20 @@ impl Workspace {
         // It may come to the root of the crate from there.
         let places = [place.clone(), (*krate, Vec::new())];
         let named = places.map(|it| (it, HashSet::from([name.to_owned()]))).into_iter().collect();
-        let Some(found) = self.look_ups(*krate, key, &named, now, sources, &mut questions) else {
+        let Some(found) = self.look_ups((*krate, key), &named, true, now, sources, &mut questions) else {
             return Ok(None);
         };
         let replies = self.ask_all(&questions.lines)?;
         if replies.iter().any(|it| it.get("error").is_some()) {
             return Ok(None);
         }
-        let places = found.into_iter().filter_map(|it| Some((self.place_looked_in(&it, &replies)?, it.end_of)));
-        Ok(Some(places.collect()))
+        let is_other = |it: &LookUp| it.first.is_some_and(|it| !replies[it]["ok"]["types"].is_null());
+        let place = |it: LookUp| {
+            let place = self.place_looked_in(&it, &replies)?;
+            let used = if is_other(&it) { Use::Other } else { it.used };
+            Some((place, used))
+        };
+        Ok(Some(found.into_iter().filter_map(place).collect()))
     }
 
     /// Whether, where such an item isn't, nothing is that has its name, and where it is, nothing else.

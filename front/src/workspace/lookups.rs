@@ -137,12 +137,25 @@ enum Place {
     Behind(usize),
 }
 
+/// What a path does with a name that it looks up.
+#[derive(Clone)]
+pub(super) enum Use {
+    /// The path of an import ends with it, behind others.
+    End(Importing),
+    /// The path of an import ends with the name behind it.
+    Holder(Importing),
+    /// The path of a macro call, of an attribute or of a derive goes on behind it.
+    TowardsMacro,
+    Other,
+}
+
 /// A look-up of a name.
 pub(super) struct LookUp {
     pub name: String,
     place: Place,
-    /// The import whose path ends with the name, behind others.
-    pub end_of: Option<Importing>,
+    /// Where the path begins with the name, the number of the question what that stands for there.
+    pub first: Option<usize>,
+    pub used: Use,
 }
 
 /// A leaf of a `use` in a file, or in what a call expands to, that binds a name.
@@ -294,7 +307,7 @@ impl Workspace {
         // Another file may have a module of this name.
         let modules = questions.add(format!("{{\"do\":\"modules\",\"file\":{}}}", quoted(key)));
         let sources = self.sources_from(krate);
-        let found = self.look_ups(krate, key, &names, now, &sources, &mut questions);
+        let found = self.look_ups((krate, key), &names, imports.is_empty(), now, &sources, &mut questions);
         let globs = self.globs_of(&sources, &mut questions);
         let asked: Vec<[usize; 2]> = imports
             .iter()
@@ -371,12 +384,13 @@ impl Workspace {
         (krate..self.states.len() as u32).flat_map(of_crate).collect()
     }
 
-    /// What looks one of the names up that come or go. None where that isn't known.
+    /// What looks one of the names up that come or go. None where that isn't known. Where all of them are names of items, which
+    /// are no macros, no path of a macro looks them up at its end.
     pub(super) fn look_ups(
         &self,
-        krate: u32,
-        key: &Key,
+        (krate, key): (u32, &Key),
         changed: &HashMap<ModulePlace, HashSet<String>>,
+        are_items: bool,
         now: &Built,
         sources: &[Source],
         questions: &mut Questions,
@@ -405,23 +419,40 @@ impl Workspace {
                     let is_global = path.starts_with("::");
                     let path_names = names_of(&path);
                     for (at, name) in path_names.iter().enumerate().filter(|it| names.contains(&**it.1)) {
-                        if at > 0 {
+                        let behind = path_names.len() - at - 1;
+                        // Items aren't macros.
+                        if are_items && behind == 0 && context != Context::Import {
+                            continue;
+                        }
+                        let importing = || importing(source, node, number);
+                        let used = match (context, behind) {
+                            (Context::Import, 0) if at > 0 => importing().map(Use::End),
+                            // In 2015 the first name of an import's path is one of the root.
+                            (Context::Import, 1) if at > 0 || of_crate.edition != "2015" => {
+                                importing().map(Use::Holder)
+                            }
+                            (Context::Import, _) | (_, 0) => None,
+                            _ => Some(Use::TowardsMacro),
+                        };
+                        let used = used.unwrap_or(Use::Other);
+                        let asked = |count: usize| {
                             let before = if is_global { "::" } else { "" };
-                            let before = format!("{before}{}", path_names[..at].join("::"));
-                            let question = self.question_in(source.krate, &place, &before, context);
-                            let is_end = at + 1 == path_names.len() && context == Context::Import;
-                            let end_of = is_end.then(|| importing(source, node, number)).flatten();
-                            let place = Place::Behind(questions.add(question));
-                            made.push(LookUp { name: name.clone(), place, end_of });
+                            let path = format!("{before}{}", path_names[..count].join("::"));
+                            self.question_in(source.krate, &place, &path, context)
+                        };
+                        if at > 0 {
+                            let place = Place::Behind(questions.add(asked(at)));
+                            made.push(LookUp { name: name.clone(), place, first: None, used });
                             continue;
                         }
                         let is_single = path_names.len() == 1 && context != Context::Import;
                         if is_single && source.krate != krate && of_root.is_some_and(|it| it.contains(name)) {
                             return None;
                         }
+                        let first = are_items.then(|| questions.add(asked(1)));
                         let mut add = |module: &[Step]| {
                             let place = Place::In((source.krate, module.to_vec()));
-                            made.push(LookUp { name: name.clone(), place, end_of: None });
+                            made.push(LookUp { name: name.clone(), place, first, used: used.clone() });
                         };
                         if of_crate.edition == "2015" {
                             add(&[]);

@@ -26,7 +26,7 @@ pub enum KnownBy {
     LookUps,
     /// The same, but an import that comes or goes leads into a crate for which a stub stands, so that it isn't judged.
     Unjudged,
-    /// Only imports look them up, which become resolved or unresolved.
+    /// Imports look them up, which become resolved or unresolved, and else at most paths of macros, which lead to none.
     Imports,
 }
 
