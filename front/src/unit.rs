@@ -39,6 +39,8 @@ pub struct Leaf {
     pub binds: Option<Arc<str>>,
     /// Whether it is `self` in a list.
     pub is_self: bool,
+    /// Whether it is a list in which something stands, so that its path is but the beginning of others.
+    pub is_list: bool,
 }
 
 /// What a node has besides by its kind.
@@ -661,16 +663,17 @@ fn leaves_of(tree: &UseTree, prefix: &str, place_of: &dyn Fn(Span) -> Span, made
                 Some(it) => Some(it.text.clone()).filter(|it| **it != *"_"),
                 None => path.rsplit("::").next().map(Into::into),
             };
-            made.push(Leaf { path, span, binds, is_self });
+            made.push(Leaf { path, span, binds, is_self, is_list: false });
         }
         UseTree::Glob { path, span } => {
             let path = joined(prefix, path.as_ref().map_or("", |it| &it.text));
             let (path, binds) = (joined(&path, "*"), Some("*".into()));
-            made.push(Leaf { path, span: place_of(*span), binds, is_self: false });
+            made.push(Leaf { path, span: place_of(*span), binds, is_self: false, is_list: false });
         }
         UseTree::List { path, trees, span } => {
             let path = joined(prefix, path.as_ref().map_or("", |it| &it.text));
-            made.push(Leaf { path: path.clone(), span: place_of(*span), binds: None, is_self: false });
+            let (span, is_list) = (place_of(*span), !trees.is_empty());
+            made.push(Leaf { path: path.clone(), span, binds: None, is_self: false, is_list });
             for it in trees {
                 leaves_of(it, &path, place_of, made);
             }

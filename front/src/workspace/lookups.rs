@@ -416,6 +416,10 @@ impl Workspace {
                 for (number, (path, context)) in
                     paths_of_node(node, &of_crate.options, left_out).into_iter().enumerate()
                 {
+                    // What is in a list looks its path up too.
+                    if node.leaves().get(number).is_some_and(|it| it.is_list) {
+                        continue;
+                    }
                     let is_global = path.starts_with("::");
                     let path_names = names_of(&path);
                     for (at, name) in path_names.iter().enumerate().filter(|it| names.contains(&**it.1)) {
