@@ -204,7 +204,7 @@ impl Session {
             &self.askers,
             edit,
         )?;
-        let mut hits = hits; for k in 0..self.inputs.crates().len() as u32 { hits.push(hir_base::ids::MapId::of_crate(Crate(k)))?; } self.inputs.set_file(file, source, trees)?;
+        self.inputs.set_file(file, source, trees)?;
         forget(
             &self.tables,
             &mut self.kept,
@@ -231,7 +231,7 @@ impl Session {
             &self.askers,
             edit,
         )?;
-        self.inputs.remove_file(file, trees); if hits.len() > 0 { return Ok(()); }
+        self.inputs.remove_file(file, trees);
         forget(
             &self.tables,
             &mut self.kept,

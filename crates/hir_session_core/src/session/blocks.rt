@@ -90,7 +90,7 @@ impl Session {
         )?;
         let one = PendingBlock::new(alloc, &block)?;
         let own = self.block_id(&block);
-        let mut hits = hits; hits.push(hir_base::ids::MapId::of_crate(block.holder.krate()))?; self.inputs.set_block(block, source)?;
+        self.inputs.set_block(block, source)?;
         let mut known = self.pending.take();
         let fell = forget_listing(
             alloc,

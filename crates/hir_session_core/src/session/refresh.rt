@@ -82,7 +82,7 @@ impl Session {
     {
         // Fewer blocks may wait now. `refresh_blocks` says which do.
         self.pending = None;
-        drop(found);
+        self.kept.keep(&self.tables, &mut self.askers, found)?;
         Ok(())
     }
 
@@ -90,7 +90,7 @@ impl Session {
     fn is_marked_at(&self, k: u32) -> bool
         ensures value { result ≡ is_marked self.now (id_of k) }
     {
-        self.is_marked(MapId::of_crate(Crate(k))) || k == 0
+        self.is_marked(MapId::of_crate(Crate(k)))
     }
 
     /// What a run gives for a crate, beside the maps of those before it.
@@ -369,7 +369,7 @@ impl Session {
         ensures many { result ≡ Err RefreshError.TooMany → HasOverlongRun self.new }
     {
         let mut done = self.refresh_crates::<C>(alloc)?;
-        if done.len() == 0 { return Err(RefreshError::TooMany); } self.refresh_blocks::<C>(alloc, &mut done)?;
+        self.refresh_blocks::<C>(alloc, &mut done)?;
         Ok(done)
     }
 }
