@@ -1,0 +1,4 @@
+#!/bin/bash
+# chain.sh LOG NAME..: one run of the gate over these
+cd /work/clones/chainb; log=$1; shift
+RT_JOBS=2 setsid nohup nice -n -10 bash -c "time rt ci $*" 2>&1 | python3 tools/stamped.py > $log
