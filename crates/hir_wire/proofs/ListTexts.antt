@@ -1,30 +1,25 @@
 -- What is written one part after another.
-use Rattle.std.proofs.Common.{◌≡◌, ◌∙◌, ap, refl, ℕ, List, ◌++◌}
-use Rattle.std.proofs.lemmas.List.{append_assoc}
+use Rattle.std.proofs.Common.{◌≡◌, ◌∙◌, ap, refl, ℕ, List, ◌++◌, append_assoc, map}
 use Rattle.std.specs.Prelude.{codes}
 use Rattle.serde_json.proofs.OnLiterals.{serde_json_on_literals}
-use Rattle.serde_json.specs.Data.{Data, object, member, no_members}
+use Rattle.serde_json.specs.Data.{Data, array, object, member, no_members}
+use Rattle.serde_json.specs.View.{items_of}
 use Rattle.serde_json.specs.Written.{compact_text}
 use Rattle.hir_wire.specs.Replies.{success}
 
--- two parts
-pub after_both : (old one two first second : List ℕ) → one ≡ old ++ first → two ≡ one ++ second → two ≡ old ++ (first ++ second)
-after_both old one two first second a b = b ∙ ap (λ (xs : List ℕ). xs ++ second) a ∙ append_assoc old first second
-
--- an element, before what comes behind it
-pub before_rest : (old now comma element rest : List ℕ) → now ≡ old ++ (comma ++ element) → now ++ rest ≡ old ++ (comma ++ (element ++ rest))
-before_rest old now comma element rest is =
-    ap (λ (xs : List ℕ). xs ++ rest) is ∙ append_assoc old (comma ++ element) rest ∙ ap (λ (xs : List ℕ). old ++ xs) (append_assoc comma element rest)
+-- a text, and what is written behind it
+pub after : (old part : List ℕ) (new text : List ℕ) → new ≡ old ++ part → old ≡ text → new ≡ text ++ part
+after old part new text written before = written ∙ ap (λ (xs : List ℕ). xs ++ part) before
 
 -- what went well
 pub success_written : (d : Data) → (codes "{\"ok\":" ++ compact_text d) ++ codes "}" ≡ compact_text (success d)
 unfolding serde_json_on_literals
 success_written d = refl
 
-all_behind : (a x b y c z e : List ℕ) → (((((a ++ x) ++ b) ++ y) ++ c) ++ z) ++ e ≡ a ++ (x ++ (b ++ (y ++ (c ++ (z ++ e)))))
-all_behind a x b y c z e =
-    append_assoc ((((a ++ x) ++ b) ++ y) ++ c) z e ∙ append_assoc (((a ++ x) ++ b) ++ y) c (z ++ e) ∙ append_assoc ((a ++ x) ++ b) y (c ++ (z ++ e))
-    ∙ append_assoc (a ++ x) b (y ++ (c ++ (z ++ e))) ∙ append_assoc a x (b ++ (y ++ (c ++ (z ++ e))))
+-- seven parts, the last of which closes what the first opens; behind them what closes the whole
+parts_written : (a x b y c z e f : List ℕ)
+    → (((((a ++ x) ++ b) ++ y) ++ c) ++ z) ++ (e ++ f) ≡ (a ++ (x ++ (b ++ (y ++ (c ++ (z ++ e)))))) ++ f
+parts_written a x b y c z e f = simp append_assoc
 
 -- what a trait or an impl holds
 pub items_written : (calls told held : Data)
@@ -33,5 +28,10 @@ pub items_written : (calls told held : Data)
     ≡ compact_text (success (object (member (codes "calls") calls (member (codes "diagnostics") told (member (codes "items") held no_members)))))
 unfolding serde_json_on_literals
 items_written calls told held =
-    all_behind (codes "{\"ok\":{\"calls\":") (compact_text calls) (codes ",\"diagnostics\":") (compact_text told) (codes ",\"items\":") (compact_text held)
-    (codes "}}")
+    parts_written (codes "{\"ok\":{\"calls\":") (compact_text calls) (codes ",\"diagnostics\":") (compact_text told) (codes ",\"items\":") (compact_text held)
+    (codes "}") (codes "}")
+
+-- the text of a list is that of an equal list
+pub same_text : {A : Type 0} (data : A → Data) (xs ys : List A) → xs ≡ ys
+    → compact_text (array (items_of (map data xs))) ≡ compact_text (array (items_of (map data ys)))
+same_text data xs ys is = ap (λ (zs : List _). compact_text (array (items_of (map data zs)))) is
