@@ -31,7 +31,8 @@ items_written calls told held =
     parts_written (codes "{\"ok\":{\"calls\":") (compact_text calls) (codes ",\"diagnostics\":") (compact_text told) (codes ",\"items\":") (compact_text held)
     (codes "}") (codes "}")
 
--- the text of a list is that of an equal list
-pub same_text : {A : Type 0} (data : A → Data) (xs ys : List A) → xs ≡ ys
-    → compact_text (array (items_of (map data xs))) ≡ compact_text (array (items_of (map data ys)))
-same_text data xs ys is = ap (λ (zs : List _). compact_text (array (items_of (map data zs)))) is
+-- a text, and the text of a list behind it
+pub after_list : {A : Type 0} (of : A → Data) (xs ys : List A) (old new text : List ℕ) → new ≡ old ++ compact_text (array (items_of (map of xs))) → xs ≡ ys
+    → old ≡ text → new ≡ text ++ compact_text (array (items_of (map of ys)))
+after_list of xs ys old new text written is before =
+    after old _ new text written before ∙ ap (λ zs. text ++ compact_text (array (items_of (map of zs)))) is

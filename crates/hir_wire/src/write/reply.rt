@@ -77,7 +77,7 @@ pub fn reply_text(alloc: Global, reply: &Reply) -> Result<String, AllocError>
 {
     match reply {
         Reply::Places(places) => list_text(alloc, places.as_slice()),
-        Reply::Answer(answer) => answer_reply(alloc, answer)?.to_string(alloc),
+        Reply::Answer(answer) => answer_text(alloc, answer),
         Reply::Diagnostics(diagnostics) => list_text(alloc, diagnostics.as_slice()),
         Reply::Items(items) => items_text(alloc, items),
         Reply::Names(names) => list_text(alloc, names.as_slice()),
@@ -129,6 +129,12 @@ fn success(alloc: Global, value: Value) -> Result<Value, AllocError>
     let mut members = Map::new(alloc);
     serde_json::put(&mut members, alloc, "ok", value)?;
     Ok(Value::Object(members))
+}
+
+fn answer_text(alloc: Global, answer: &Answer) -> Result<String, AllocError>
+    ensures value { IfOk result (λ s. string_bytes s ≡ text_of (Reply.Answer answer.now)) }
+{
+    answer_reply(alloc, answer)?.to_string(alloc)
 }
 
 fn answer_reply(alloc: Global, answer: &Answer) -> Result<Value, AllocError>

@@ -3,6 +3,10 @@ use Rattle.hir_wire.specs.Replies.{called_data}
 use Rattle.hir_wire.proofs.PlainLemmas.{plain_called, written_plain}
 use Rattle.hir_wire.proofs.write.diagnostic.called_text.Goals as goal
 
-pub returns-clause-value : goal.returns-clause-value
-returns-clause-value c =
-    written_plain c.to_string.result _ (called_data c.args.call.now) c.to_string.ensures.text c.in_ok-called_value.ensures.value (plain_called c.args.call.now)
+pub returns : goal.returns
+returns c =
+    record {
+      value =
+          written_plain c.to_string.result _ (called_data c.args.call.now) c.to_string.ensures.text
+          c.in_ok-called_value.ensures.value (plain_called c.args.call.now);
+    }
