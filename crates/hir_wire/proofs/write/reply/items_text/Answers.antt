@@ -11,12 +11,14 @@ returns c =
     record {
       value =
           let held = c.args.items.now in
-          let first = after_list called_data c.as_slice.result.now held.calls _ _ _ c.in_ok-write_list.ensures.ok c.as_slice.ensures.value c.in_ok-out.ensures.ok in
+          let opened = c.in_ok-out.ensures.ok in
+          let first = after_list called_data c.as_slice.result.now held.calls _ _ _ c.in_ok-write_list.ensures.ok c.as_slice.ensures.value opened in
           let keyed = after _ _ _ _ c.in_ok-push_str.ensures.bytes first in
           let second =
           after_list diagnostic_data c.as_slice-2.result.now held.diagnostics _ _ _ c.in_ok-write_list-2.ensures.ok c.as_slice-2.ensures.value keyed in
           let keyed_too = after _ _ _ _ c.in_ok-push_str-2.ensures.bytes second in
-          let third = after_list assoc_item_data c.as_slice-3.result.now held.items _ _ _ c.in_ok-write_list-3.ensures.ok c.as_slice-3.ensures.value keyed_too in
+          let third =
+              after_list assoc_item_data c.as_slice-3.result.now held.items _ _ _ c.in_ok-write_list-3.ensures.ok c.as_slice-3.ensures.value keyed_too in
           after _ _ _ _ c.in_ok-push_str-3.ensures.bytes third
           ∙ items_written (array (items_of (map called_data held.calls))) (array (items_of (map diagnostic_data held.diagnostics)))
           (array (items_of (map assoc_item_data held.items)));
