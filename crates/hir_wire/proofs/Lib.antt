@@ -5,3 +5,4 @@ pub mod PairLemmas
 pub mod NodeLemmas
 pub mod LineLemmas
 mod BlockLemmas
+mod ListTexts

@@ -30,7 +30,7 @@ plain_elements [] = refl
 plain_elements (element.Module name ∷ es) = plain_elements es
 plain_elements (element.Block id ∷ es) = plain_elements es
 
-plain_place : (p : PlaceValue) → has_float (place_data p) ≡ false
+pub plain_place : (p : PlaceValue) → has_float (place_data p) ≡ false
 plain_place p = plain_elements p.elements
 
 plain_places : (ps : List PlaceValue) → items_have_float (items_of (map place_data ps)) ≡ false
@@ -101,7 +101,7 @@ plain_source_item i = neither (has_float (source_data i.source)) false (plain_so
 plain_item_members : (i : SourceItem) (word : List ℕ) (within : Data) → has_float within ≡ false → members_have_float (item_members i word within) ≡ false
 plain_item_members i word within h = neither (members_have_float (source_item_members i)) _ (plain_source_item i) (neither (has_float within) false h refl)
 
-plain_called : (c : CalledItem) → has_float (called_data c) ≡ false
+pub plain_called : (c : CalledItem) → has_float (called_data c) ≡ false
 plain_called c = plain_call c.kind (source_item_members c.item) (plain_source_item c.item)
 
 plain_kind : (k : DiagnosticKind) (within : Data) → has_float within ≡ false → members_have_float (diagnostic_members k within) ≡ false
@@ -121,16 +121,18 @@ plain_kind (diagnostic.MacroDefError named message) within h =
 plain_kind (diagnostic.MacroError error named path) within h =
     neither (members_have_float (source_item_members named)) _ (plain_source_item named) (neither (has_float within) false h refl)
 
+pub plain_diagnostic : (d : Diagnostic) → has_float (diagnostic_data d) ≡ false
+plain_diagnostic d = plain_kind d.kind (definition_data d.in_module) (plain_definition d.in_module)
+
 plain_diagnostics : (ds : List Diagnostic) → items_have_float (items_of (map diagnostic_data ds)) ≡ false
 plain_diagnostics [] = refl
-plain_diagnostics (d ∷ ds) =
-    neither (has_float (diagnostic_data d)) _ (plain_kind d.kind (definition_data d.in_module) (plain_definition d.in_module)) (plain_diagnostics ds)
+plain_diagnostics (d ∷ ds) = neither (has_float (diagnostic_data d)) _ (plain_diagnostic d) (plain_diagnostics ds)
 
 plain_called_items : (cs : List CalledItem) → items_have_float (items_of (map called_data cs)) ≡ false
 plain_called_items [] = refl
 plain_called_items (c ∷ cs) = neither (has_float (called_data c)) _ (plain_called c) (plain_called_items cs)
 
-plain_assoc_item : (i : AssocItem) → has_float (assoc_item_data i) ≡ false
+pub plain_assoc_item : (i : AssocItem) → has_float (assoc_item_data i) ≡ false
 plain_assoc_item i = neither (members_have_float (source_item_members i.def)) false (plain_source_item i.def) refl
 
 plain_assoc_items : (is : List AssocItem) → items_have_float (items_of (map assoc_item_data is)) ≡ false
@@ -143,7 +145,7 @@ plain_items i =
     (neither (items_have_float (items_of (map diagnostic_data i.diagnostics))) _ (plain_diagnostics i.diagnostics)
     (neither (items_have_float (items_of (map assoc_item_data i.items))) false (plain_assoc_items i.items) refl))
 
-plain_bound_name : (n : BoundName) → has_float (bound_name_data n) ≡ false
+pub plain_bound_name : (n : BoundName) → has_float (bound_name_data n) ≡ false
 plain_bound_name n =
     neither (has_float (or_null item_data n.macros)) _ (plain_item n.macros)
     (neither (has_float (or_null item_data n.types)) _ (plain_item n.types)

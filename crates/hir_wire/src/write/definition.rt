@@ -1,7 +1,8 @@
 //! Source items as JSON.
-ghost use Rattle.std.specs.Prelude.{◌≡◌, IfOk, map, ◌∷◌, codes};
+ghost use Rattle.std.specs.Prelude.{◌≡◌, IfOk, map, ◌∷◌, codes, string_bytes};
 ghost use Rattle.serde_json.specs.Data.{string, object, member, no_members};
 ghost use Rattle.serde_json.specs.View.{view};
+ghost use Rattle.serde_json.specs.Written.{compact_text};
 ghost use Rattle.hir_wire.specs.Replies.{id_data, element_data, place_data, root_data, call_members, call_data, source_data, definition_data, number_data};
 ghost use Rattle.hir_wire.specs.Words.{kind_word, source_word};
 
@@ -41,6 +42,13 @@ pub fn place_value(alloc: Global, place: &Place) -> Result<Value, AllocError>
     ensures value { IfOk result (λ v. view v ≡ place_data place.now) }
 {
     Ok(Value::Array(place_list(alloc, place.krate(), place.elements())?))
+}
+
+/// The text of a place.
+pub fn place_text(alloc: Global, place: &Place) -> Result<String, AllocError>
+    ensures value { IfOk result (λ s. string_bytes s ≡ compact_text (place_data place.now)) }
+{
+    place_value(alloc, place)?.to_string(alloc)
 }
 
 fn place_list(

@@ -1,7 +1,8 @@
 //! Diagnostics as JSON.
-ghost use Rattle.std.specs.Prelude.{◌≡◌, IfOk, codes, map};
+ghost use Rattle.std.specs.Prelude.{◌≡◌, IfOk, codes, map, string_bytes};
 ghost use Rattle.serde_json.specs.Data.{string, object, member, no_members};
 ghost use Rattle.serde_json.specs.View.{view};
+ghost use Rattle.serde_json.specs.Written.{compact_text};
 ghost use Rattle.hir_base.specs.Display.{path_shown};
 ghost use Rattle.hir_wire.specs.Replies.{call_members, called_data, diagnostic_data, diagnostic_members, item_members, number_data, source_item_data};
 
@@ -24,12 +25,19 @@ pub fn source_item_value(alloc: Global, item: &SourceItem) -> Result<Value, Allo
 }
 
 /// A macro call: the called or decorated item, after how it was called.
-pub fn called_value(alloc: Global, call: &CalledItem) -> Result<Value, AllocError>
+fn called_value(alloc: Global, call: &CalledItem) -> Result<Value, AllocError>
     ensures value { IfOk result (λ v. view v ≡ called_data call.now) }
 {
     let id = id_value(alloc, call.item.id)?;
     let source = source_value(alloc, &call.item.source)?;
     called_by(alloc, call.kind, id, source, source_word(call.item.kind))
+}
+
+/// The text of a macro call.
+pub fn called_text(alloc: Global, call: &CalledItem) -> Result<String, AllocError>
+    ensures value { IfOk result (λ s. string_bytes s ≡ compact_text (called_data call.now)) }
+{
+    called_value(alloc, call)?.to_string(alloc)
 }
 
 fn called_by(
@@ -218,12 +226,9 @@ fn diagnostic_value(alloc: Global, diagnostic: &Diagnostic) -> Result<Value, All
     kind_in_module(alloc, &diagnostic.kind, within)
 }
 
-pub fn diagnostics_list(alloc: Global, diagnostics: &[Diagnostic]) -> Result<Vec<Value>, AllocError>
-    ensures value { IfOk result (λ vs. map view vs.items ≡ map diagnostic_data diagnostics.now) }
+/// The text of a diagnostic.
+pub fn diagnostic_text(alloc: Global, diagnostic: &Diagnostic) -> Result<String, AllocError>
+    ensures value { IfOk result (λ s. string_bytes s ≡ compact_text (diagnostic_data diagnostic.now)) }
 {
-    let mut values = Vec::new(alloc);
-    for diagnostic in diagnostics {
-        values.push(diagnostic_value(alloc, diagnostic)?)?;
-    }
-    Ok(values)
+    diagnostic_value(alloc, diagnostic)?.to_string(alloc)
 }

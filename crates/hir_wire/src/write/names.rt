@@ -1,6 +1,7 @@
 //! The names of modules as JSON.
-ghost use Rattle.std.specs.Prelude.{◌≡◌, IfOk, map};
+ghost use Rattle.std.specs.Prelude.{◌≡◌, IfOk, string_bytes};
 ghost use Rattle.serde_json.specs.View.{view};
+ghost use Rattle.serde_json.specs.Written.{compact_text};
 ghost use Rattle.hir_wire.specs.Replies.{bound_name_data, name_word};
 
 use crate::names::BoundName;
@@ -28,13 +29,9 @@ fn bound_name_value(alloc: Global, bound: &BoundName) -> Result<Value, AllocErro
     json!(in alloc; {"macros": macros, "name": name, "types": types, "values": values})
 }
 
-/// What each name stands for.
-pub fn names_list(alloc: Global, names: &[BoundName]) -> Result<Vec<Value>, AllocError>
-    ensures value { IfOk result (λ vs. map view vs.items ≡ map bound_name_data names.now) }
+/// The text of a name, with what it stands for.
+pub fn bound_name_text(alloc: Global, bound: &BoundName) -> Result<String, AllocError>
+    ensures value { IfOk result (λ s. string_bytes s ≡ compact_text (bound_name_data bound.now)) }
 {
-    let mut values = Vec::new(alloc);
-    for bound in names {
-        values.push(bound_name_value(alloc, bound)?)?;
-    }
-    Ok(values)
+    bound_name_value(alloc, bound)?.to_string(alloc)
 }

@@ -1,20 +1,19 @@
 //! The text of a reply.
-ghost use Rattle.std.specs.Prelude.{◌≡◌, IfOk, IfSome, is_some, string_bytes, codes, map};
-ghost use Rattle.serde_json.specs.Data.{object, array, member, no_members};
+ghost use Rattle.std.specs.Prelude.{◌≡◌, IfOk, IfSome, true, is_some, string_bytes, map};
+ghost use Rattle.serde_json.specs.Data.{array, string};
 ghost use Rattle.serde_json.specs.View.{view, items_of};
-ghost use Rattle.hir_wire.specs.Replies.{text_of, reply_data, is_fixed, refusal, success, place_data};
-ghost use Rattle.hir_wire.specs.Words.{status_word};
+ghost use Rattle.serde_json.specs.Written.{compact_text};
+ghost use Rattle.hir_wire.specs.Replies.{text_of, reply_data, is_fixed, items_data, success};
 
+use crate::answer::Answer;
+use crate::items::Items;
 use crate::reply::{Reply, Status};
 use crate::write::answer::answer_value;
-use crate::write::definition::{id_value, kind_word, place_value};
-use crate::write::diagnostic::diagnostics_list;
-use crate::write::items::items_value;
-use crate::write::names::names_list;
+use crate::write::definition::{id_value, kind_word};
+use crate::write::list::{Listed, write_list};
 use hir_base::ast_id::{AstKind, SyntaxId};
 use hir_base::ids::Crate;
 use hir_base::limit::Limit;
-use hir_base::place::Place;
 use serde_json::{Map, Value, json};
 use std::alloc::{AllocError, Global};
 
@@ -76,42 +75,52 @@ fn too_large_text(limit: Limit) -> &'static str
 pub fn reply_text(alloc: Global, reply: &Reply) -> Result<String, AllocError>
     ensures value { IfOk result (λ s. string_bytes s ≡ text_of reply.now) }
 {
-    match fixed_text(reply) {
-        Some(text) => String::from_str(alloc, text),
-        None => reply_value(alloc, reply)?.to_string(alloc),
+    match reply {
+        Reply::Places(places) => list_text(alloc, places.as_slice()),
+        Reply::Answer(answer) => answer_text(alloc, answer),
+        Reply::Diagnostics(diagnostics) => list_text(alloc, diagnostics.as_slice()),
+        Reply::Items(items) => items_text(alloc, items),
+        Reply::Names(names) => list_text(alloc, names.as_slice()),
+        Reply::Text(text) => page_reply(alloc, text.as_str())?.to_string(alloc),
+        Reply::DependencyOrder(krate) => dependency_order(alloc, *krate)?.to_string(alloc),
+        Reply::DuplicateId { kind, id } => duplicate_id(alloc, *kind, *id)?.to_string(alloc),
+        _ => unvarying_text(alloc, reply),
     }
 }
 
-fn reply_value(alloc: Global, reply: &Reply) -> Result<Value, AllocError>
-    ensures value { IfOk result (λ v. view v ≡ reply_data reply.now) }
+/// The text of a reply whose text is always the same, in memory of its own.
+fn unvarying_text(alloc: Global, reply: &Reply) -> Result<String, AllocError>
+    requires fixed { is_fixed reply.now ≡ true }
+    ensures value { IfOk result (λ s. string_bytes s ≡ text_of reply.now) }
 {
-    match reply {
-        Reply::Done => success(alloc, Value::Null),
-        Reply::Places(places) => {
-            success(alloc, Value::Array(places_list(alloc, places.as_slice())?))
-        }
-        Reply::Answer(answer) => success(alloc, answer_value(alloc, answer)?),
-        Reply::Status(status) => success(alloc, Value::try_from_str(alloc, status_word(*status))?),
-        Reply::Diagnostics(diagnostics) => {
-            let values = diagnostics_list(alloc, diagnostics.as_slice())?;
-            success(alloc, Value::Array(values))
-        }
-        Reply::Items(items) => success(alloc, items_value(alloc, items)?),
-        Reply::Names(names) => success(alloc, Value::Array(names_list(alloc, names.as_slice())?)),
-        Reply::Text(text) => success(alloc, Value::try_from_str(alloc, text.as_str())?),
-        Reply::Json => refusal(alloc, "json"),
-        Reply::Command => refusal(alloc, "command"),
-        Reply::Memory => refusal(alloc, "memory"),
-        Reply::TooLarge(limit) => too_large(alloc, *limit),
-        Reply::TooMany => refusal(alloc, "too many"),
-        Reply::DependencyOrder(krate) => dependency_order(alloc, *krate),
-        Reply::UnknownCrate => refusal(alloc, "unknown crate"),
-        Reply::DuplicateId { kind, id } => duplicate_id(alloc, *kind, *id),
-        Reply::StalePlace => refusal(alloc, "stale place"),
-        Reply::UnknownPlace => refusal(alloc, "unknown place"),
-        Reply::NotATrait => refusal(alloc, "not a trait"),
-        Reply::NoSuchImpl => refusal(alloc, "no such impl"),
+    match fixed_text(reply) {
+        Some(text) => String::from_str(alloc, text),
+        None => Ok(String::new(alloc)),
     }
+}
+
+/// The text of a list that went well.
+fn list_text<T: Listed>(alloc: Global, items: &[T]) -> Result<String, AllocError>
+    ensures value { IfOk result (λ s. string_bytes s ≡ compact_text (success (array (items_of (map T.json items.now))))) }
+{
+    let mut out = String::from_str(alloc, "{\"ok\":")?;
+    write_list(alloc, &mut out, items)?;
+    out.push_str("}")?;
+    Ok(out)
+}
+
+/// The text of what a trait or an impl holds.
+fn items_text(alloc: Global, items: &Items) -> Result<String, AllocError>
+    ensures value { IfOk result (λ s. string_bytes s ≡ compact_text (success (items_data items.now))) }
+{
+    let mut out = String::from_str(alloc, "{\"ok\":{\"calls\":")?;
+    write_list(alloc, &mut out, items.calls.as_slice())?;
+    out.push_str(",\"diagnostics\":")?;
+    write_list(alloc, &mut out, items.diagnostics.as_slice())?;
+    out.push_str(",\"items\":")?;
+    write_list(alloc, &mut out, items.items.as_slice())?;
+    out.push_str("}}")?;
+    Ok(out)
 }
 
 fn success(alloc: Global, value: Value) -> Result<Value, AllocError>
@@ -122,16 +131,22 @@ fn success(alloc: Global, value: Value) -> Result<Value, AllocError>
     Ok(Value::Object(members))
 }
 
-fn refusal(alloc: Global, why: &str) -> Result<Value, AllocError>
-    ensures value { IfOk result (λ v. view v ≡ refusal why.now no_members) }
+fn answer_text(alloc: Global, answer: &Answer) -> Result<String, AllocError>
+    ensures value { IfOk result (λ s. string_bytes s ≡ text_of (Reply.Answer answer.now)) }
 {
-    json!(in alloc; {"error": why})
+    answer_reply(alloc, answer)?.to_string(alloc)
 }
 
-fn too_large(alloc: Global, limit: Limit) -> Result<Value, AllocError>
-    ensures value { IfOk result (λ v. view v ≡ reply_data (Reply.TooLarge limit)) }
+fn answer_reply(alloc: Global, answer: &Answer) -> Result<Value, AllocError>
+    ensures value { IfOk result (λ v. view v ≡ reply_data (Reply.Answer answer.now)) }
 {
-    json!(in alloc; {"error": "too large", "what": limit.as_str()})
+    success(alloc, answer_value(alloc, answer)?)
+}
+
+fn page_reply(alloc: Global, page: &str) -> Result<Value, AllocError>
+    ensures value { IfOk result (λ v. view v ≡ success (string page.now)) }
+{
+    success(alloc, Value::try_from_str(alloc, page)?)
 }
 
 fn dependency_order(alloc: Global, krate: Crate) -> Result<Value, AllocError>
@@ -145,24 +160,4 @@ fn duplicate_id(alloc: Global, kind: AstKind, id: SyntaxId) -> Result<Value, All
 {
     let id = id_value(alloc, id)?;
     json!(in alloc; {"error": "duplicate id", "id": id, "kind": kind_word(kind)})
-}
-
-fn places_list(alloc: Global, places: &[Place]) -> Result<Vec<Value>, AllocError>
-    ensures value { IfOk result (λ vs. map view vs.items ≡ map place_data places.now) }
-{
-    let mut values = Vec::new(alloc);
-    for place in places {
-        values.push(place_value(alloc, place)?)?;
-    }
-    Ok(values)
-}
-
-fn status_word(status: Status) -> &'static str
-    ensures value { result.now ≡ status_word status }
-{
-    match status {
-        Status::Current => "current",
-        Status::Stale => "stale",
-        Status::Unknown => "unknown",
-    }
 }
