@@ -1,8 +1,8 @@
 -- What the items of a block's place mean.
 use Rattle.std.proofs.Common.{◌≡◌, List, [], ◌∷◌, ◌++◌, length, Some, Err, refl, ap}
 use Rattle.serde_json.specs.Data.{item}
-use Rattle.serde_json.specs.View.{view, items_view}
-use Rattle.serde_json.specs.declared.value.Value.{Value}
+use Rattle.hir_wire.specs.Values.{view, items_view}
+use Rattle.hir_wire.specs.declared.json.value.Value.{Value}
 use Rattle.hir_wire.specs.declared.read_error.ReadError.TheVariants.{Command}
 use Rattle.hir_wire.specs.Paths.{place_of_items, block_step_of, block_place_of_items, items_before_last, last_item}
 use Rattle.hir_wire.specs.Reading.{made, paired, graver}

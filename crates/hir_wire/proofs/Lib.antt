@@ -6,3 +6,4 @@ pub mod NodeLemmas
 pub mod LineLemmas
 mod BlockLemmas
 mod ListTexts
+pub mod Parsing

@@ -1,8 +1,8 @@
 -- A list of two has two items.
 use Rattle.std.proofs.Common.{◌≡◌, ◌<◌, List, [], ◌∷◌, length, Option, None, refl, arith}
 use Rattle.serde_json.specs.Data.{Data}
-use Rattle.serde_json.specs.View.{items_view}
-use Rattle.serde_json.specs.declared.value.Value.{Value}
+use Rattle.hir_wire.specs.Values.{items_view}
+use Rattle.hir_wire.specs.declared.json.value.Value.{Value}
 use Rattle.hir_wire.specs.Paths.{of_two}
 
 pub of_two-short : {A : Type 0} (f : Data → Data → Option A) (vs : List Value) → length vs < 2 → of_two f (items_view vs) ≡ None

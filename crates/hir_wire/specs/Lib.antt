@@ -1,5 +1,6 @@
 -- ---- Reading: what reading a part of a line gives, and how readings are put together
 pub mod Reading
+pub mod Values
 -- ---- Paths: names, paths, files, ids and places
 pub mod Paths
 -- ---- Attributes: options, conditions on them, and attributes

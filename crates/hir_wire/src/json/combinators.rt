@@ -1,12 +1,12 @@
 //! Parts of an object, and what is made of them.
 ghost use Rattle.std.specs.Prelude.{◌≡◌, [], map, option_map, string_bytes};
-ghost use Rattle.serde_json.specs.View.{members_view};
+ghost use Rattle.hir_wire.specs.Values.{members_view};
 ghost use Rattle.hir_wire.specs.Reading.{Reads, paired, required, optional, maybe, list_of};
 ghost use Rattle.hir_wire.specs.Paths.{text_of};
 
 use crate::json::from_json::{FromJson, field};
 use crate::read_error::ReadError;
-use serde_json::{Map, Value};
+use crate::json::value::{Members, Value};
 use std::alloc::Global;
 
 /// Both parts, if both were read, and otherwise the graver error.
@@ -28,11 +28,11 @@ pub fn both<A: Drop, B: Drop>(
 #[tactic(auto, unfolding(crate::specs::Reading::required))]
 pub fn required<T: FromJson>(
     alloc: Global,
-    members: &Map<String, Value>,
+    members: &Members<'_>,
     name: &str,
 ) -> Result<T, ReadError>
     ensures value { Reads T.seen
-        (required T.meaning name.now (members_view members.now.entries)) result }
+        (required T.meaning name.now (members_view members.now.items)) result }
 {
     match field(members, name) {
         Some(value) => T::read(alloc, value),
@@ -44,12 +44,12 @@ pub fn required<T: FromJson>(
 #[tactic(auto, unfolding(crate::specs::Reading::optional))]
 pub fn optional<T: FromJson>(
     alloc: Global,
-    members: &Map<String, Value>,
+    members: &Members<'_>,
     name: &str,
     absent: T,
 ) -> Result<T, ReadError>
     ensures value { Reads T.seen (optional (T.seen absent) T.meaning name.now
-        (members_view members.now.entries)) result }
+        (members_view members.now.items)) result }
 {
     match field(members, name) {
         Some(value) => T::read(alloc, value),
@@ -61,11 +61,11 @@ pub fn optional<T: FromJson>(
 #[tactic(auto, unfolding(crate::specs::Reading::optional))]
 pub fn text_or_empty(
     alloc: Global,
-    members: &Map<String, Value>,
+    members: &Members<'_>,
     name: &str,
 ) -> Result<String, ReadError>
     ensures value { Reads (λ s. string_bytes s)
-        (optional [] text_of name.now (members_view members.now.entries)) result }
+        (optional [] text_of name.now (members_view members.now.items)) result }
 {
     match field(members, name) {
         Some(value) => String::read(alloc, value),
@@ -77,11 +77,11 @@ pub fn text_or_empty(
 #[tactic(auto, unfolding(crate::specs::Reading::optional))]
 pub fn list_or_empty<T: FromJson>(
     alloc: Global,
-    members: &Map<String, Value>,
+    members: &Members<'_>,
     name: &str,
 ) -> Result<Vec<T>, ReadError>
     ensures value { Reads (λ v. map T.seen v.items)
-        (optional [] (list_of T.meaning) name.now (members_view members.now.entries)) result }
+        (optional [] (list_of T.meaning) name.now (members_view members.now.items)) result }
 {
     match field(members, name) {
         Some(value) => Vec::read(alloc, value),
@@ -93,11 +93,11 @@ pub fn list_or_empty<T: FromJson>(
 #[tactic(auto, unfolding(crate::specs::Reading::maybe))]
 pub fn maybe<T: FromJson>(
     alloc: Global,
-    members: &Map<String, Value>,
+    members: &Members<'_>,
     name: &str,
 ) -> Result<Option<T>, ReadError>
     ensures value { Reads (λ o. option_map T.seen o)
-        (maybe T.meaning name.now (members_view members.now.entries)) result }
+        (maybe T.meaning name.now (members_view members.now.items)) result }
 {
     match field(members, name) {
         Some(value) => match T::read(alloc, value) {

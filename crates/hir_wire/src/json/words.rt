@@ -1,12 +1,12 @@
 //! Words that stand for values.
 ghost use Rattle.std.specs.Prelude.{◌≡◌};
-ghost use Rattle.serde_json.specs.View.{view, members_view, items_view};
+ghost use Rattle.hir_wire.specs.Values.{view, members_view, items_view};
 ghost use Rattle.hir_wire.specs.Reading.{Reads, required, optional, each_of, word_as};
 
 use crate::json::from_json::field;
 use crate::json::parts::Parts;
 use crate::read_error::ReadError;
-use serde_json::{Map, Value};
+use crate::json::value::{Members, Value};
 use std::alloc::Global;
 
 /// One of a few values, each of which has a word.
@@ -20,7 +20,7 @@ pub trait Word: Copy + Drop {
 }
 
 /// The value that a word stands for.
-pub fn read_word<W: Word>(value: &Value) -> Result<W, ReadError>
+pub fn read_word<W: Word>(value: &Value<'_>) -> Result<W, ReadError>
     ensures value { Reads (λ w. w) (word_as W.of_word (view value.now)) result }
 {
     let Some(word) = value.as_str() else {
@@ -34,9 +34,9 @@ pub fn read_word<W: Word>(value: &Value) -> Result<W, ReadError>
 
 /// The word of this name.
 #[tactic(auto, unfolding(crate::specs::Reading::required))]
-pub fn required_word<W: Word>(members: &Map<String, Value>, name: &str) -> Result<W, ReadError>
+pub fn required_word<W: Word>(members: &Members<'_>, name: &str) -> Result<W, ReadError>
     ensures value { Reads (λ w. w)
-        (required (word_as W.of_word) name.now (members_view members.now.entries)) result }
+        (required (word_as W.of_word) name.now (members_view members.now.items)) result }
 {
     match field(members, name) {
         Some(value) => read_word(value),
@@ -47,12 +47,12 @@ pub fn required_word<W: Word>(members: &Map<String, Value>, name: &str) -> Resul
 /// The word of this name, which may be absent.
 #[tactic(auto, unfolding(crate::specs::Reading::optional))]
 pub fn optional_word<W: Word>(
-    members: &Map<String, Value>,
+    members: &Members<'_>,
     name: &str,
     absent: W,
 ) -> Result<W, ReadError>
     ensures value { Reads (λ w. w)
-        (optional absent (word_as W.of_word) name.now (members_view members.now.entries)) result }
+        (optional absent (word_as W.of_word) name.now (members_view members.now.items)) result }
 {
     match field(members, name) {
         Some(value) => read_word(value),
@@ -61,7 +61,7 @@ pub fn optional_word<W: Word>(
 }
 
 /// The values that each word of a list stands for.
-pub fn read_words<W: Word>(alloc: Global, items: &[Value]) -> Result<Vec<W>, ReadError>
+pub fn read_words<W: Word>(alloc: Global, items: &[Value<'_>]) -> Result<Vec<W>, ReadError>
     ensures value { Reads (λ v. v.items)
         (each_of (word_as W.of_word) (items_view items.now)) result }
 {

@@ -1,5 +1,5 @@
 //! Structs, unions and enums.
-ghost use Rattle.serde_json.specs.View.{members_view};
+ghost use Rattle.hir_wire.specs.Values.{members_view};
 ghost use Rattle.hir_item_tree.specs.Source.{variant_view};
 ghost use Rattle.hir_wire.specs.ItemParts.{kind_view};
 ghost use Rattle.hir_wire.specs.Reading.{Reads};
@@ -12,7 +12,7 @@ use crate::read::attribute::attrs_field;
 use crate::read_error::ReadError;
 use hir_item_tree::shape::FieldsShape;
 use hir_item_tree::source::{NodeKind, Variant};
-use serde_json::{Map, Value};
+use crate::json::value::{Members, Value};
 use std::alloc::Global;
 
 impl Word for FieldsShape {
@@ -31,8 +31,8 @@ impl Word for FieldsShape {
 }
 
 #[tactic(auto, unfolding(crate::specs::Structs::struct_in))]
-pub fn read_struct(alloc: Global, members: &Map<String, Value>) -> Result<NodeKind, ReadError>
-    ensures value { Reads kind_view (struct_in (members_view members.now.entries)) result }
+pub fn read_struct(alloc: Global, members: &Members<'_>) -> Result<NodeKind, ReadError>
+    ensures value { Reads kind_view (struct_in (members_view members.now.items)) result }
 {
     match both(
         required(alloc, members, "name"),
@@ -51,8 +51,8 @@ pub fn read_struct(alloc: Global, members: &Map<String, Value>) -> Result<NodeKi
 }
 
 #[tactic(auto, unfolding(crate::specs::Structs::union_in))]
-pub fn read_union(alloc: Global, members: &Map<String, Value>) -> Result<NodeKind, ReadError>
-    ensures value { Reads kind_view (union_in (members_view members.now.entries)) result }
+pub fn read_union(alloc: Global, members: &Members<'_>) -> Result<NodeKind, ReadError>
+    ensures value { Reads kind_view (union_in (members_view members.now.items)) result }
 {
     match both(
         required(alloc, members, "name"),
@@ -64,8 +64,8 @@ pub fn read_union(alloc: Global, members: &Map<String, Value>) -> Result<NodeKin
 }
 
 #[tactic(auto, unfolding(crate::specs::Structs::variant_in))]
-fn read_variant_members(alloc: Global, members: &Map<String, Value>) -> Result<Variant, ReadError>
-    ensures value { Reads variant_view (variant_in (members_view members.now.entries)) result }
+fn read_variant_members(alloc: Global, members: &Members<'_>) -> Result<Variant, ReadError>
+    ensures value { Reads variant_view (variant_in (members_view members.now.items)) result }
 {
     match both(
         both(
@@ -97,7 +97,7 @@ impl FromJson for Variant {
 
     ghost meaning = { variant_of };
 
-    fn read(alloc: Global, value: &Value) -> Result<Variant, ReadError> {
+    fn read(alloc: Global, value: &Value<'_>) -> Result<Variant, ReadError> {
         match value {
             Value::Object(members) => read_variant_members(alloc, members),
             _ => Err(ReadError::Command),
@@ -106,8 +106,8 @@ impl FromJson for Variant {
 }
 
 #[tactic(auto, unfolding(crate::specs::Structs::enum_in))]
-pub fn read_enum(alloc: Global, members: &Map<String, Value>) -> Result<NodeKind, ReadError>
-    ensures value { Reads kind_view (enum_in (members_view members.now.entries)) result }
+pub fn read_enum(alloc: Global, members: &Members<'_>) -> Result<NodeKind, ReadError>
+    ensures value { Reads kind_view (enum_in (members_view members.now.items)) result }
 {
     match both(
         required(alloc, members, "name"),

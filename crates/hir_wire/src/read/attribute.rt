@@ -1,7 +1,7 @@
 //! Attributes.
 ghost use Rattle.std.specs.Prelude.{◌≡◌, map, option_map, codes};
 ghost use Rattle.serde_json.specs.Data.{Data};
-ghost use Rattle.serde_json.specs.View.{view, members_view, items_view};
+ghost use Rattle.hir_wire.specs.Values.{view, members_view, items_view};
 ghost use Rattle.hir_item_tree.specs.Attributes.{no_attributes, cfg, input_view, attribute_view, attributes_view};
 ghost use Rattle.hir_wire.specs.Attributes.{attr_form, written_form, path_text_in, is_conditional, suits, suited, attr_form_in, derive_in, input_in, meta_in, cfg_attr_in, attribute_of, inner_in, attribute_list_of, each_attribute_of, attributes_of};
 ghost use Rattle.hir_wire.specs.Conditions.{cfg_of};
@@ -12,7 +12,7 @@ use crate::json::from_json::{field, has_member};
 use crate::json::parts::Parts;
 use crate::read_error::ReadError;
 use hir_item_tree::raw_attr::{AttrInput, Meta, RawAttr, TokenTree};
-use serde_json::{Map, Value};
+use crate::json::value::{Members, Value};
 use std::alloc::Global;
 
 /// What stands behind the path of an attribute that is no condition.
@@ -57,8 +57,8 @@ fn attr_form(
 }
 
 #[tactic(auto, unfolding(crate::specs::Attributes::written_form))]
-fn written_form(members: &Map<String, Value>) -> Option<AttrForm>
-    ensures value { result ≡ written_form (members_view members.now.entries) }
+fn written_form(members: &Members<'_>) -> Option<AttrForm>
+    ensures value { result ≡ written_form (members_view members.now.items) }
 {
     attr_form(
         has_member(members, "literal"),
@@ -88,25 +88,25 @@ fn suits(path: &str, form: AttrForm) -> bool
 }
 
 #[tactic(auto, unfolding(crate::specs::Attributes::path_text_in))]
-fn path_text<'v>(members: &'v Map<String, Value>) -> Option<&'v str>
+fn path_text<'t>(members: &Members<'t>) -> Option<&'t str>
     ensures value { option_map (λ t. t.now) result
-        ≡ path_text_in (members_view members.now.entries) }
+        ≡ path_text_in (members_view members.now.items) }
 {
     field(members, "path")?.as_str()
 }
 
 /// How the members write an attribute, unless their path wants another form.
-fn attr_form_in(members: &Map<String, Value>) -> Option<AttrForm>
-    ensures value { result ≡ attr_form_in (members_view members.now.entries) }
+fn attr_form_in(members: &Members<'_>) -> Option<AttrForm>
+    ensures value { result ≡ attr_form_in (members_view members.now.items) }
 {
     let path = path_text(members)?;
     let form = written_form(members)?;
     if suits(path, form) { Some(form) } else { None }
 }
 
-fn read_literal(alloc: Global, members: &Map<String, Value>) -> Result<Option<AttrInput>, ReadError>
+fn read_literal(alloc: Global, members: &Members<'_>) -> Result<Option<AttrInput>, ReadError>
     ensures value { Reads (λ i. option_map input_view i)
-        (input_in InputForm.Literal (members_view members.now.entries)) result }
+        (input_in InputForm.Literal (members_view members.now.items)) result }
 {
     match required(alloc, members, "literal") {
         Ok(text) => Ok(Some(AttrInput::Literal(text))),
@@ -114,9 +114,9 @@ fn read_literal(alloc: Global, members: &Map<String, Value>) -> Result<Option<At
     }
 }
 
-fn read_tokens(alloc: Global, members: &Map<String, Value>) -> Result<Option<AttrInput>, ReadError>
+fn read_tokens(alloc: Global, members: &Members<'_>) -> Result<Option<AttrInput>, ReadError>
     ensures value { Reads (λ i. option_map input_view i)
-        (input_in InputForm.Tokens (members_view members.now.entries)) result }
+        (input_in InputForm.Tokens (members_view members.now.items)) result }
 {
     match required(alloc, members, "tokens") {
         Ok(text) => Ok(Some(AttrInput::TokenTree(TokenTree::Tokens(text)))),
@@ -124,9 +124,9 @@ fn read_tokens(alloc: Global, members: &Map<String, Value>) -> Result<Option<Att
     }
 }
 
-fn read_paths(alloc: Global, members: &Map<String, Value>) -> Result<Option<AttrInput>, ReadError>
+fn read_paths(alloc: Global, members: &Members<'_>) -> Result<Option<AttrInput>, ReadError>
     ensures value { Reads (λ i. option_map input_view i)
-        (input_in InputForm.Paths (members_view members.now.entries)) result }
+        (input_in InputForm.Paths (members_view members.now.items)) result }
 {
     match required(alloc, members, "paths") {
         Ok(paths) => Ok(Some(AttrInput::TokenTree(TokenTree::Paths(paths)))),
@@ -135,8 +135,8 @@ fn read_paths(alloc: Global, members: &Map<String, Value>) -> Result<Option<Attr
 }
 
 #[tactic(auto, unfolding(crate::specs::Attributes::derive_in))]
-fn read_derive_parts(alloc: Global, members: &Map<String, Value>) -> Result<AttrInput, ReadError>
-    ensures value { Reads input_view (derive_in (members_view members.now.entries)) result }
+fn read_derive_parts(alloc: Global, members: &Members<'_>) -> Result<AttrInput, ReadError>
+    ensures value { Reads input_view (derive_in (members_view members.now.items)) result }
 {
     match both(
         required(alloc, members, "derive"),
@@ -147,9 +147,9 @@ fn read_derive_parts(alloc: Global, members: &Map<String, Value>) -> Result<Attr
     }
 }
 
-fn read_derive(alloc: Global, members: &Map<String, Value>) -> Result<Option<AttrInput>, ReadError>
+fn read_derive(alloc: Global, members: &Members<'_>) -> Result<Option<AttrInput>, ReadError>
     ensures value { Reads (λ i. option_map input_view i)
-        (input_in InputForm.Derive (members_view members.now.entries)) result }
+        (input_in InputForm.Derive (members_view members.now.items)) result }
 {
     match read_derive_parts(alloc, members) {
         Ok(input) => Ok(Some(input)),
@@ -160,10 +160,10 @@ fn read_derive(alloc: Global, members: &Map<String, Value>) -> Result<Option<Att
 fn read_input(
     alloc: Global,
     form: InputForm,
-    members: &Map<String, Value>,
+    members: &Members<'_>,
 ) -> Result<Option<AttrInput>, ReadError>
     ensures value { Reads (λ i. option_map input_view i)
-        (input_in form (members_view members.now.entries)) result }
+        (input_in form (members_view members.now.items)) result }
 {
     match form {
         InputForm::Word => Ok(None),
@@ -178,9 +178,9 @@ fn read_input(
 fn read_meta(
     alloc: Global,
     form: InputForm,
-    members: &Map<String, Value>,
+    members: &Members<'_>,
 ) -> Result<RawAttr, ReadError>
-    ensures value { Reads attribute_view (meta_in form (members_view members.now.entries)) result }
+    ensures value { Reads attribute_view (meta_in form (members_view members.now.items)) result }
 {
     match both(
         required(alloc, members, "path"),
@@ -191,9 +191,9 @@ fn read_meta(
     }
 }
 
-fn read_condition(alloc: Global, members: &Map<String, Value>) -> Result<RawAttr, ReadError>
+fn read_condition(alloc: Global, members: &Members<'_>) -> Result<RawAttr, ReadError>
     ensures value { Reads attribute_view
-        (made cfg (required cfg_of (codes "cfg") (members_view members.now.entries))) result }
+        (made cfg (required cfg_of (codes "cfg") (members_view members.now.items))) result }
 {
     match required(alloc, members, "cfg") {
         Ok(cfg) => Ok(RawAttr::Cfg(cfg)),
@@ -202,7 +202,7 @@ fn read_condition(alloc: Global, members: &Map<String, Value>) -> Result<RawAttr
 }
 
 #[cycle(attributes)]
-fn read_attribute(alloc: Global, value: &Value) -> Result<RawAttr, ReadError>
+fn read_attribute(alloc: Global, value: &Value<'_>) -> Result<RawAttr, ReadError>
     ensures value { Reads attribute_view (attribute_of (view value.now)) result }
 {
     match value {
@@ -212,9 +212,9 @@ fn read_attribute(alloc: Global, value: &Value) -> Result<RawAttr, ReadError>
 }
 
 #[cycle(attributes)]
-fn read_attribute_members(alloc: Global, members: &Map<String, Value>) -> Result<RawAttr, ReadError>
+fn read_attribute_members(alloc: Global, members: &Members<'_>) -> Result<RawAttr, ReadError>
     ensures value { Reads attribute_view
-        (attribute_of (Data.object (members_view members.now.entries))) result }
+        (attribute_of (Data.object (members_view members.now.items))) result }
 {
     match attr_form_in(members) {
         Some(AttrForm::Meta(form)) => read_meta(alloc, form, members),
@@ -226,9 +226,9 @@ fn read_attribute_members(alloc: Global, members: &Map<String, Value>) -> Result
 
 #[cycle(attributes)]
 #[tactic(auto, unfolding(crate::specs::Attributes::cfg_attr_in))]
-fn read_cfg_attr(alloc: Global, members: &Map<String, Value>) -> Result<RawAttr, ReadError>
-    ensures value { Reads attribute_view (cfg_attr_in (members_view members.now.entries)
-        (inner_in (members_view members.now.entries))) result }
+fn read_cfg_attr(alloc: Global, members: &Members<'_>) -> Result<RawAttr, ReadError>
+    ensures value { Reads attribute_view (cfg_attr_in (members_view members.now.items)
+        (inner_in (members_view members.now.items))) result }
 {
     match both(required(alloc, members, "cfg"), inner_field(alloc, members)) {
         Ok((cfg, attrs)) => Ok(RawAttr::CfgAttr { cfg, attrs }),
@@ -237,9 +237,9 @@ fn read_cfg_attr(alloc: Global, members: &Map<String, Value>) -> Result<RawAttr,
 }
 
 #[cycle(attributes)]
-fn inner_field(alloc: Global, members: &Map<String, Value>) -> Result<Vec<RawAttr>, ReadError>
+fn inner_field(alloc: Global, members: &Members<'_>) -> Result<Vec<RawAttr>, ReadError>
     ensures value { Reads (λ v. map attribute_view v.items)
-        (inner_in (members_view members.now.entries)) result }
+        (inner_in (members_view members.now.items)) result }
 {
     match field(members, "attrs") {
         Some(value) => read_attribute_list(alloc, value),
@@ -248,7 +248,7 @@ fn inner_field(alloc: Global, members: &Map<String, Value>) -> Result<Vec<RawAtt
 }
 
 #[cycle(attributes)]
-fn read_attribute_list(alloc: Global, value: &Value) -> Result<Vec<RawAttr>, ReadError>
+fn read_attribute_list(alloc: Global, value: &Value<'_>) -> Result<Vec<RawAttr>, ReadError>
     ensures value { Reads (λ v. map attribute_view v.items)
         (attribute_list_of (view value.now)) result }
 {
@@ -259,7 +259,7 @@ fn read_attribute_list(alloc: Global, value: &Value) -> Result<Vec<RawAttr>, Rea
 }
 
 #[cycle(attributes)]
-fn read_attribute_items(alloc: Global, items: &Vec<Value>) -> Result<Vec<RawAttr>, ReadError>
+fn read_attribute_items(alloc: Global, items: &Vec<Value<'_>>) -> Result<Vec<RawAttr>, ReadError>
     ensures value { Reads (λ v. map attribute_view v.items)
         (each_attribute_of (items_view items.now.items)) result }
 {
@@ -270,7 +270,7 @@ fn read_attribute_items(alloc: Global, items: &Vec<Value>) -> Result<Vec<RawAttr
     parts.finish()
 }
 
-fn read_attributes(alloc: Global, value: &Value) -> Result<Vec<RawAttr>, ReadError>
+fn read_attributes(alloc: Global, value: &Value<'_>) -> Result<Vec<RawAttr>, ReadError>
     ensures value { Reads (λ v. attributes_view v.items) (attributes_of (view value.now)) result }
 {
     match read_attribute_list(alloc, value) {
@@ -281,10 +281,10 @@ fn read_attributes(alloc: Global, value: &Value) -> Result<Vec<RawAttr>, ReadErr
 
 /// The attributes in the member `attrs`, of which there are none where it is absent.
 #[tactic(auto, unfolding(crate::specs::Reading::optional))]
-pub fn attrs_field(alloc: Global, members: &Map<String, Value>) -> Result<Vec<RawAttr>, ReadError>
+pub fn attrs_field(alloc: Global, members: &Members<'_>) -> Result<Vec<RawAttr>, ReadError>
     ensures value { Reads (λ v. attributes_view v.items)
         (optional no_attributes attributes_of (codes "attrs")
-        (members_view members.now.entries)) result }
+        (members_view members.now.items)) result }
 {
     match field(members, "attrs") {
         Some(value) => read_attributes(alloc, value),

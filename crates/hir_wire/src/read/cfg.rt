@@ -1,7 +1,7 @@
 //! Options, and conditions on them.
 ghost use Rattle.std.specs.Prelude.{◌≡◌, map, codes};
 ghost use Rattle.serde_json.specs.Data.{Data};
-ghost use Rattle.serde_json.specs.View.{view, members_view, items_view};
+ghost use Rattle.hir_wire.specs.Values.{view, members_view, items_view};
 ghost use Rattle.hir_base.specs.Cfg.{cfg_view, atom, unless};
 ghost use Rattle.hir_wire.specs.Conditions.{flag_meant, key_value_in, cfg_form, cfg_form_in, all_of, any_of, cfg_of, cfg_in, cfgs_in, cfg_list_of, each_cfg_of};
 ghost use Rattle.hir_wire.specs.Reading.{Reads, made};
@@ -13,7 +13,7 @@ use crate::read::path::name_of_text;
 use crate::read_error::ReadError;
 use hir_base::cfg::{CfgAtom, CfgExpr};
 use hir_base::text::Text;
-use serde_json::{Map, Value};
+use crate::json::value::{Members, Value};
 use std::alloc::Global;
 
 /// How an object writes a condition.
@@ -44,7 +44,7 @@ impl FromJson for Text {
 
     ghost meaning = { text_of };
 
-    fn read(alloc: Global, value: &Value) -> Result<Text, ReadError> {
+    fn read(alloc: Global, value: &Value<'_>) -> Result<Text, ReadError> {
         match value.as_str() {
             Some(text) => Ok(Text::from_str(alloc, text)?),
             None => Err(ReadError::Command),
@@ -53,8 +53,8 @@ impl FromJson for Text {
 }
 
 #[tactic(auto, unfolding(crate::specs::Conditions::key_value_in))]
-fn read_key_value(alloc: Global, members: &Map<String, Value>) -> Result<CfgAtom, ReadError>
-    ensures value { Reads (λ a. a) (key_value_in (members_view members.now.entries)) result }
+fn read_key_value(alloc: Global, members: &Members<'_>) -> Result<CfgAtom, ReadError>
+    ensures value { Reads (λ a. a) (key_value_in (members_view members.now.items)) result }
 {
     match both(
         required(alloc, members, "key"),
@@ -75,9 +75,9 @@ impl FromJson for CfgAtom {
 
     ghost meaning = { option_of };
 
-    fn read(alloc: Global, value: &Value) -> Result<CfgAtom, ReadError> {
+    fn read(alloc: Global, value: &Value<'_>) -> Result<CfgAtom, ReadError> {
         match value {
-            Value::String(text) => read_flag(alloc, text.as_str()),
+            Value::String(text) => read_flag(alloc, *text),
             Value::Object(members) => read_key_value(alloc, members),
             _ => Err(ReadError::Command),
         }
@@ -97,8 +97,8 @@ fn cfg_form(key: bool, every: bool, some: bool, negated: bool) -> Option<CfgForm
 }
 
 #[tactic(auto, unfolding(crate::specs::Conditions::cfg_form_in))]
-fn cfg_form_in(members: &Map<String, Value>) -> Option<CfgForm>
-    ensures value { result ≡ cfg_form_in (members_view members.now.entries) }
+fn cfg_form_in(members: &Members<'_>) -> Option<CfgForm>
+    ensures value { result ≡ cfg_form_in (members_view members.now.items) }
 {
     cfg_form(
         has_member(members, "key"),
@@ -117,9 +117,9 @@ fn read_flag_cfg(alloc: Global, text: &str) -> Result<CfgExpr, ReadError>
     }
 }
 
-fn read_key_value_cfg(alloc: Global, members: &Map<String, Value>) -> Result<CfgExpr, ReadError>
+fn read_key_value_cfg(alloc: Global, members: &Members<'_>) -> Result<CfgExpr, ReadError>
     ensures value { Reads cfg_view
-        (made atom (key_value_in (members_view members.now.entries))) result }
+        (made atom (key_value_in (members_view members.now.items))) result }
 {
     match read_key_value(alloc, members) {
         Ok(atom) => Ok(CfgExpr::Atom(atom)),
@@ -128,22 +128,22 @@ fn read_key_value_cfg(alloc: Global, members: &Map<String, Value>) -> Result<Cfg
 }
 
 #[cycle(conditions)]
-fn read_cfg(alloc: Global, value: &Value) -> Result<CfgExpr, ReadError>
+fn read_cfg(alloc: Global, value: &Value<'_>) -> Result<CfgExpr, ReadError>
     ensures value { Reads cfg_view (cfg_of (view value.now)) result }
 {
     match value {
         Value::Null => Ok(CfgExpr::Invalid),
         Value::Bool(holds) => Ok(CfgExpr::Const(*holds)),
-        Value::String(text) => read_flag_cfg(alloc, text.as_str()),
+        Value::String(text) => read_flag_cfg(alloc, *text),
         Value::Object(members) => read_cfg_members(alloc, members),
         Value::Number(_) | Value::Array(_) => Err(ReadError::Command),
     }
 }
 
 #[cycle(conditions)]
-fn read_cfg_members(alloc: Global, members: &Map<String, Value>) -> Result<CfgExpr, ReadError>
+fn read_cfg_members(alloc: Global, members: &Members<'_>) -> Result<CfgExpr, ReadError>
     ensures value { Reads cfg_view
-        (cfg_of (Data.object (members_view members.now.entries))) result }
+        (cfg_of (Data.object (members_view members.now.items))) result }
 {
     match cfg_form_in(members) {
         Some(CfgForm::KeyValue) => read_key_value_cfg(alloc, members),
@@ -155,9 +155,9 @@ fn read_cfg_members(alloc: Global, members: &Map<String, Value>) -> Result<CfgEx
 }
 
 #[cycle(conditions)]
-fn read_all(alloc: Global, members: &Map<String, Value>) -> Result<CfgExpr, ReadError>
+fn read_all(alloc: Global, members: &Members<'_>) -> Result<CfgExpr, ReadError>
     ensures value { Reads cfg_view
-        (made all_of (cfgs_in (codes "all") (members_view members.now.entries))) result }
+        (made all_of (cfgs_in (codes "all") (members_view members.now.items))) result }
 {
     match cfgs_field(alloc, members, "all") {
         Ok(parts) => Ok(CfgExpr::All(parts)),
@@ -166,9 +166,9 @@ fn read_all(alloc: Global, members: &Map<String, Value>) -> Result<CfgExpr, Read
 }
 
 #[cycle(conditions)]
-fn read_any(alloc: Global, members: &Map<String, Value>) -> Result<CfgExpr, ReadError>
+fn read_any(alloc: Global, members: &Members<'_>) -> Result<CfgExpr, ReadError>
     ensures value { Reads cfg_view
-        (made any_of (cfgs_in (codes "any") (members_view members.now.entries))) result }
+        (made any_of (cfgs_in (codes "any") (members_view members.now.items))) result }
 {
     match cfgs_field(alloc, members, "any") {
         Ok(parts) => Ok(CfgExpr::Any(parts)),
@@ -177,9 +177,9 @@ fn read_any(alloc: Global, members: &Map<String, Value>) -> Result<CfgExpr, Read
 }
 
 #[cycle(conditions)]
-fn read_not(alloc: Global, members: &Map<String, Value>) -> Result<CfgExpr, ReadError>
+fn read_not(alloc: Global, members: &Members<'_>) -> Result<CfgExpr, ReadError>
     ensures value { Reads cfg_view
-        (made unless (cfg_in (codes "not") (members_view members.now.entries))) result }
+        (made unless (cfg_in (codes "not") (members_view members.now.items))) result }
 {
     match part_field(alloc, members, "not") {
         Ok(part) => Ok(CfgExpr::Not(Box::new(alloc, part)?)),
@@ -188,8 +188,8 @@ fn read_not(alloc: Global, members: &Map<String, Value>) -> Result<CfgExpr, Read
 }
 
 #[cycle(conditions)]
-fn part_field(alloc: Global, members: &Map<String, Value>, name: &str) -> Result<CfgExpr, ReadError>
-    ensures value { Reads cfg_view (cfg_in name.now (members_view members.now.entries)) result }
+fn part_field(alloc: Global, members: &Members<'_>, name: &str) -> Result<CfgExpr, ReadError>
+    ensures value { Reads cfg_view (cfg_in name.now (members_view members.now.items)) result }
 {
     match field(members, name) {
         Some(value) => read_cfg(alloc, value),
@@ -200,11 +200,11 @@ fn part_field(alloc: Global, members: &Map<String, Value>, name: &str) -> Result
 #[cycle(conditions)]
 fn cfgs_field(
     alloc: Global,
-    members: &Map<String, Value>,
+    members: &Members<'_>,
     name: &str,
 ) -> Result<Vec<CfgExpr>, ReadError>
     ensures value { Reads (λ v. map cfg_view v.items)
-        (cfgs_in name.now (members_view members.now.entries)) result }
+        (cfgs_in name.now (members_view members.now.items)) result }
 {
     match field(members, name) {
         Some(value) => read_cfgs(alloc, value),
@@ -213,7 +213,7 @@ fn cfgs_field(
 }
 
 #[cycle(conditions)]
-fn read_cfgs(alloc: Global, value: &Value) -> Result<Vec<CfgExpr>, ReadError>
+fn read_cfgs(alloc: Global, value: &Value<'_>) -> Result<Vec<CfgExpr>, ReadError>
     ensures value { Reads (λ v. map cfg_view v.items) (cfg_list_of (view value.now)) result }
 {
     match value {
@@ -223,7 +223,7 @@ fn read_cfgs(alloc: Global, value: &Value) -> Result<Vec<CfgExpr>, ReadError>
 }
 
 #[cycle(conditions)]
-fn read_cfg_items(alloc: Global, items: &Vec<Value>) -> Result<Vec<CfgExpr>, ReadError>
+fn read_cfg_items(alloc: Global, items: &Vec<Value<'_>>) -> Result<Vec<CfgExpr>, ReadError>
     ensures value { Reads (λ v. map cfg_view v.items) (each_cfg_of (items_view items.now.items)) result }
 {
     let mut parts = Parts::new(alloc);
@@ -243,7 +243,7 @@ impl FromJson for CfgExpr {
 
     ghost meaning = { cfg_of };
 
-    fn read(alloc: Global, value: &Value) -> Result<CfgExpr, ReadError> {
+    fn read(alloc: Global, value: &Value<'_>) -> Result<CfgExpr, ReadError> {
         read_cfg(alloc, value)
     }
 }

@@ -1,5 +1,5 @@
 //! Crates.
-ghost use Rattle.serde_json.specs.View.{members_view};
+ghost use Rattle.hir_wire.specs.Values.{members_view};
 ghost use Rattle.hir_messages.specs.CommandValue.{crate_input_view};
 ghost use Rattle.hir_wire.specs.Reading.{Reads};
 ghost use Rattle.hir_wire.specs.Commands.{dependency_in, crate_input_in};
@@ -11,7 +11,7 @@ use crate::json::words::{Word, required_word};
 use crate::read::attribute::attrs_field;
 use crate::read_error::ReadError;
 use hir_base::edition::Edition;
-use serde_json::{Map, Value};
+use crate::json::value::{Members, Value};
 use std::alloc::Global;
 
 impl Word for Edition {
@@ -33,9 +33,9 @@ impl Word for Edition {
 #[tactic(auto, unfolding(crate::specs::Commands::dependency_in))]
 fn read_dependency_members(
     alloc: Global,
-    members: &Map<String, Value>,
+    members: &Members<'_>,
 ) -> Result<Dependency, ReadError>
-    ensures value { Reads (λ d. d) (dependency_in (members_view members.now.entries)) result }
+    ensures value { Reads (λ d. d) (dependency_in (members_view members.now.items)) result }
 {
     match both(
         required(alloc, members, "crate"),
@@ -63,7 +63,7 @@ impl FromJson for Dependency {
 
     ghost meaning = { dependency_of };
 
-    fn read(alloc: Global, value: &Value) -> Result<Dependency, ReadError> {
+    fn read(alloc: Global, value: &Value<'_>) -> Result<Dependency, ReadError> {
         match value {
             Value::Object(members) => read_dependency_members(alloc, members),
             _ => Err(ReadError::Command),
@@ -72,9 +72,9 @@ impl FromJson for Dependency {
 }
 
 #[tactic(auto, unfolding(crate::specs::Commands::crate_input_in))]
-fn read_crate_members(alloc: Global, members: &Map<String, Value>) -> Result<CrateInput, ReadError>
+fn read_crate_members(alloc: Global, members: &Members<'_>) -> Result<CrateInput, ReadError>
     ensures value { Reads crate_input_view
-        (crate_input_in (members_view members.now.entries)) result }
+        (crate_input_in (members_view members.now.items)) result }
 {
     match both(
         both(
@@ -114,7 +114,7 @@ impl FromJson for CrateInput {
 
     ghost meaning = { crate_input_of };
 
-    fn read(alloc: Global, value: &Value) -> Result<CrateInput, ReadError> {
+    fn read(alloc: Global, value: &Value<'_>) -> Result<CrateInput, ReadError> {
         match value {
             Value::Object(members) => read_crate_members(alloc, members),
             _ => Err(ReadError::Command),

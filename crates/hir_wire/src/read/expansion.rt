@@ -1,6 +1,6 @@
 //! Expansions of macro calls: what they depend on, and what they give.
 ghost use Rattle.std.specs.Prelude.{◌≡◌, []};
-ghost use Rattle.serde_json.specs.View.{view, members_view, items_view};
+ghost use Rattle.hir_wire.specs.Values.{view, members_view, items_view};
 ghost use Rattle.hir_tables.specs.SourcePlaces.{expansion_value};
 ghost use Rattle.hir_messages.specs.Edits.{call_key_value, entry_view, inner_entry};
 ghost use Rattle.hir_wire.specs.Expansions.{call_of_word, attribute_call, call_of_items, call_of, macro_text_in, key_in, entry_in, inner_in, unresolved};
@@ -15,7 +15,7 @@ use hir_base::ast_id::AttrId;
 use hir_base::macro_kind::{CallStyle, ExpansionKey, MacroText};
 use hir_base::mod_path::ModPath;
 use hir_base::text::Text;
-use serde_json::{Map, Value};
+use crate::json::value::{Members, Value};
 use std::alloc::Global;
 
 fn call_of_word(word: &str) -> Option<CallStyle>
@@ -28,7 +28,7 @@ fn call_of_word(word: &str) -> Option<CallStyle>
     }
 }
 
-fn attribute_call(word: &Value, attr: &Value) -> Option<CallStyle>
+fn attribute_call(word: &Value<'_>, attr: &Value<'_>) -> Option<CallStyle>
     ensures value { result ≡ attribute_call (view word.now) (view attr.now) }
 {
     if word.as_str()? != "attr" {
@@ -37,7 +37,7 @@ fn attribute_call(word: &Value, attr: &Value) -> Option<CallStyle>
     Some(CallStyle::Attribute(AttrId(read_u32(attr)?)))
 }
 
-fn call_of_items(items: &[Value]) -> Option<CallStyle>
+fn call_of_items(items: &[Value<'_>]) -> Option<CallStyle>
     ensures value { result ≡ call_of_items (items_view items.now) }
 {
     match items {
@@ -46,11 +46,11 @@ fn call_of_items(items: &[Value]) -> Option<CallStyle>
     }
 }
 
-fn call_of_value(value: &Value) -> Option<CallStyle>
+fn call_of_value(value: &Value<'_>) -> Option<CallStyle>
     ensures value { result ≡ call_of (view value.now) }
 {
     match value {
-        Value::String(word) => call_of_word(word.as_str()),
+        Value::String(word) => call_of_word(*word),
         Value::Array(items) => call_of_items(items.as_slice()),
         _ => None,
     }
@@ -66,7 +66,7 @@ impl FromJson for CallStyle {
 
     ghost meaning = { call_meant };
 
-    fn read(_alloc: Global, value: &Value) -> Result<CallStyle, ReadError> {
+    fn read(_alloc: Global, value: &Value<'_>) -> Result<CallStyle, ReadError> {
         match call_of_value(value) {
             Some(call) => Ok(call),
             None => Err(ReadError::Command),
@@ -75,8 +75,8 @@ impl FromJson for CallStyle {
 }
 
 #[tactic(auto, unfolding(crate::specs::Expansions::macro_text_in))]
-fn read_macro_text(alloc: Global, members: &Map<String, Value>) -> Result<MacroText, ReadError>
-    ensures value { Reads (λ m. m) (macro_text_in (members_view members.now.entries)) result }
+fn read_macro_text(alloc: Global, members: &Members<'_>) -> Result<MacroText, ReadError>
+    ensures value { Reads (λ m. m) (macro_text_in (members_view members.now.items)) result }
 {
     match both(
         required(alloc, members, "crate"),
@@ -97,7 +97,7 @@ impl FromJson for MacroText {
 
     ghost meaning = { macro_text_of };
 
-    fn read(alloc: Global, value: &Value) -> Result<MacroText, ReadError> {
+    fn read(alloc: Global, value: &Value<'_>) -> Result<MacroText, ReadError> {
         match value {
             Value::Object(members) => read_macro_text(alloc, members),
             _ => Err(ReadError::Command),
@@ -106,8 +106,8 @@ impl FromJson for MacroText {
 }
 
 #[tactic(auto, unfolding(crate::specs::Expansions::key_in))]
-fn read_key_members(alloc: Global, members: &Map<String, Value>) -> Result<ExpansionKey, ReadError>
-    ensures value { Reads expansion_value (key_in (members_view members.now.entries)) result }
+fn read_key_members(alloc: Global, members: &Members<'_>) -> Result<ExpansionKey, ReadError>
+    ensures value { Reads expansion_value (key_in (members_view members.now.items)) result }
 {
     match both(
         both(
@@ -143,7 +143,7 @@ impl FromJson for ExpansionKey {
 
     ghost meaning = { key_of };
 
-    fn read(alloc: Global, value: &Value) -> Result<ExpansionKey, ReadError> {
+    fn read(alloc: Global, value: &Value<'_>) -> Result<ExpansionKey, ReadError> {
         match value {
             Value::Object(members) => read_key_members(alloc, members),
             _ => Err(ReadError::Command),
@@ -184,7 +184,7 @@ impl FromJson for CallKey {
 
     ghost meaning = { call_key_of };
 
-    fn read(alloc: Global, value: &Value) -> Result<CallKey, ReadError> {
+    fn read(alloc: Global, value: &Value<'_>) -> Result<CallKey, ReadError> {
         match ExpansionKey::read(alloc, value) {
             Ok(key) => unresolved(key),
             Err(error) => Err(error),
@@ -194,8 +194,8 @@ impl FromJson for CallKey {
 
 /// What an expansion gives: its syntax, and why it failed, if it did.
 #[tactic(auto, unfolding(crate::specs::Expansions::entry_in))]
-pub fn read_entry(alloc: Global, members: &Map<String, Value>) -> Result<ExpansionEntry, ReadError>
-    ensures value { Reads entry_view (entry_in (members_view members.now.entries)) result }
+pub fn read_entry(alloc: Global, members: &Members<'_>) -> Result<ExpansionEntry, ReadError>
+    ensures value { Reads entry_view (entry_in (members_view members.now.items)) result }
 {
     match both(
         required(alloc, members, "unit"),
@@ -210,9 +210,9 @@ pub fn read_entry(alloc: Global, members: &Map<String, Value>) -> Result<Expansi
 #[tactic(auto, unfolding(crate::specs::Expansions::inner_in))]
 pub fn read_inner(
     alloc: Global,
-    members: &Map<String, Value>,
+    members: &Members<'_>,
 ) -> Result<(Vec<ModPath>, Option<Text>), ReadError>
-    ensures value { Reads (λ p. inner_entry p.0.items p.1) (inner_in (members_view members.now.entries)) result }
+    ensures value { Reads (λ p. inner_entry p.0.items p.1) (inner_in (members_view members.now.items)) result }
 {
     both(
         required(alloc, members, "inner"),

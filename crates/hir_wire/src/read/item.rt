@@ -1,5 +1,5 @@
 //! Imports, values, aliases and macro calls.
-ghost use Rattle.serde_json.specs.View.{members_view};
+ghost use Rattle.hir_wire.specs.Values.{members_view};
 ghost use Rattle.hir_wire.specs.ItemParts.{kind_view, use_in, crate_name_meant, extern_crate_in, function_in, static_in, constant_in, type_alias_in, macro_call_in};
 ghost use Rattle.hir_wire.specs.Reading.{Reads};
 
@@ -9,12 +9,12 @@ use crate::read::path::name_of_text;
 use crate::read_error::ReadError;
 use hir_item_tree::shape::ExternCrateName;
 use hir_item_tree::source::NodeKind;
-use serde_json::{Map, Value};
+use crate::json::value::{Members, Value};
 use std::alloc::Global;
 
 #[tactic(auto, unfolding(crate::specs::ItemParts::use_in))]
-pub fn read_use(alloc: Global, members: &Map<String, Value>) -> Result<NodeKind, ReadError>
-    ensures value { Reads kind_view (use_in (members_view members.now.entries)) result }
+pub fn read_use(alloc: Global, members: &Members<'_>) -> Result<NodeKind, ReadError>
+    ensures value { Reads kind_view (use_in (members_view members.now.items)) result }
 {
     match required(alloc, members, "tree") {
         Ok(tree) => Ok(NodeKind::Use { tree }),
@@ -44,7 +44,7 @@ impl FromJson for ExternCrateName {
 
     ghost meaning = { crate_name_of };
 
-    fn read(alloc: Global, value: &Value) -> Result<ExternCrateName, ReadError> {
+    fn read(alloc: Global, value: &Value<'_>) -> Result<ExternCrateName, ReadError> {
         match value.as_str() {
             Some(text) => crate_name_of_text(alloc, text),
             None => Err(ReadError::Command),
@@ -53,8 +53,8 @@ impl FromJson for ExternCrateName {
 }
 
 #[tactic(auto, unfolding(crate::specs::ItemParts::extern_crate_in))]
-pub fn read_extern_crate(alloc: Global, members: &Map<String, Value>) -> Result<NodeKind, ReadError>
-    ensures value { Reads kind_view (extern_crate_in (members_view members.now.entries)) result }
+pub fn read_extern_crate(alloc: Global, members: &Members<'_>) -> Result<NodeKind, ReadError>
+    ensures value { Reads kind_view (extern_crate_in (members_view members.now.items)) result }
 {
     match both(
         required(alloc, members, "name"),
@@ -66,8 +66,8 @@ pub fn read_extern_crate(alloc: Global, members: &Map<String, Value>) -> Result<
 }
 
 #[tactic(auto, unfolding(crate::specs::ItemParts::function_in))]
-pub fn read_function(alloc: Global, members: &Map<String, Value>) -> Result<NodeKind, ReadError>
-    ensures value { Reads kind_view (function_in (members_view members.now.entries)) result }
+pub fn read_function(alloc: Global, members: &Members<'_>) -> Result<NodeKind, ReadError>
+    ensures value { Reads kind_view (function_in (members_view members.now.items)) result }
 {
     match both(
         required(alloc, members, "name"),
@@ -79,8 +79,8 @@ pub fn read_function(alloc: Global, members: &Map<String, Value>) -> Result<Node
 }
 
 #[tactic(auto, unfolding(crate::specs::ItemParts::static_in))]
-pub fn read_static(alloc: Global, members: &Map<String, Value>) -> Result<NodeKind, ReadError>
-    ensures value { Reads kind_view (static_in (members_view members.now.entries)) result }
+pub fn read_static(alloc: Global, members: &Members<'_>) -> Result<NodeKind, ReadError>
+    ensures value { Reads kind_view (static_in (members_view members.now.items)) result }
 {
     match both(
         required(alloc, members, "name"),
@@ -92,8 +92,8 @@ pub fn read_static(alloc: Global, members: &Map<String, Value>) -> Result<NodeKi
 }
 
 #[tactic(auto, unfolding(crate::specs::ItemParts::constant_in))]
-pub fn read_constant(alloc: Global, members: &Map<String, Value>) -> Result<NodeKind, ReadError>
-    ensures value { Reads kind_view (constant_in (members_view members.now.entries)) result }
+pub fn read_constant(alloc: Global, members: &Members<'_>) -> Result<NodeKind, ReadError>
+    ensures value { Reads kind_view (constant_in (members_view members.now.items)) result }
 {
     match both(
         maybe(alloc, members, "name"),
@@ -105,8 +105,8 @@ pub fn read_constant(alloc: Global, members: &Map<String, Value>) -> Result<Node
 }
 
 #[tactic(auto, unfolding(crate::specs::ItemParts::type_alias_in))]
-pub fn read_type_alias(alloc: Global, members: &Map<String, Value>) -> Result<NodeKind, ReadError>
-    ensures value { Reads kind_view (type_alias_in (members_view members.now.entries)) result }
+pub fn read_type_alias(alloc: Global, members: &Members<'_>) -> Result<NodeKind, ReadError>
+    ensures value { Reads kind_view (type_alias_in (members_view members.now.items)) result }
 {
     match required(alloc, members, "name") {
         Ok(name) => Ok(NodeKind::TypeAlias { name }),
@@ -115,8 +115,8 @@ pub fn read_type_alias(alloc: Global, members: &Map<String, Value>) -> Result<No
 }
 
 #[tactic(auto, unfolding(crate::specs::ItemParts::macro_call_in))]
-pub fn read_macro_call(alloc: Global, members: &Map<String, Value>) -> Result<NodeKind, ReadError>
-    ensures value { Reads kind_view (macro_call_in (members_view members.now.entries)) result }
+pub fn read_macro_call(alloc: Global, members: &Members<'_>) -> Result<NodeKind, ReadError>
+    ensures value { Reads kind_view (macro_call_in (members_view members.now.items)) result }
 {
     match required(alloc, members, "path") {
         Ok(path) => Ok(NodeKind::MacroCall { path }),

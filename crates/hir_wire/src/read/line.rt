@@ -1,6 +1,7 @@
 //! From a line to a command.
-ghost use Rattle.std.specs.Prelude.{◌≡◌, ◌≢◌, MatchResult, codes};
-ghost use Rattle.serde_json.specs.View.{view, members_view};
+ghost use Rattle.std.specs.Prelude.{◌≡◌, ◌≢◌, MatchResult, IfOk, IfSome, Some, None, false, codes};
+ghost use Rattle.hir_wire.specs.Values.{view, members_view};
+ghost use Rattle.serde_json.specs.Written.{has_float};
 ghost use Rattle.hir_messages.specs.CommandValue.{command_view, crate_modules, file_modules};
 ghost use Rattle.hir_wire.specs.Paths.{crate_of, file_of};
 ghost use Rattle.hir_wire.specs.Reading.{Reads, made, required, word_as};
@@ -11,11 +12,13 @@ use crate::edit::Edit;
 use crate::json::combinators::{both, required};
 use crate::json::floats::holds_float;
 use crate::json::from_json::has_member;
+use crate::json::parse::{ParseError, parse};
 use crate::json::words::{Word, optional_word, required_word};
 use crate::read::expansion::{read_entry, read_inner};
 use crate::read_error::ReadError;
 use hir_base::ids::Crate;
-use serde_json::{Map, Value};
+use crate::json::value::{Members, Value};
+use json::Scratch;
 use std::alloc::Global;
 
 /// The word in the field `do`.
@@ -100,8 +103,8 @@ impl Word for Option<MacroStyle> {
 }
 
 #[tactic(auto, unfolding(crate::specs::Commands::set_file_in))]
-fn read_set_file(alloc: Global, members: &Map<String, Value>) -> Result<Command, ReadError>
-    ensures value { Reads command_view (set_file_in (members_view members.now.entries)) result }
+fn read_set_file(alloc: Global, members: &Members<'_>) -> Result<Command, ReadError>
+    ensures value { Reads command_view (set_file_in (members_view members.now.items)) result }
 {
     match both(
         required(alloc, members, "file"),
@@ -112,9 +115,9 @@ fn read_set_file(alloc: Global, members: &Map<String, Value>) -> Result<Command,
     }
 }
 
-fn read_remove_file(alloc: Global, members: &Map<String, Value>) -> Result<Command, ReadError>
+fn read_remove_file(alloc: Global, members: &Members<'_>) -> Result<Command, ReadError>
     ensures value { Reads command_view
-        (fields_of Verb.RemoveFile (members_view members.now.entries)) result }
+        (fields_of Verb.RemoveFile (members_view members.now.items)) result }
 {
     match required(alloc, members, "file") {
         Ok(file) => Ok(Command::Edit(Edit::RemoveFile { file })),
@@ -123,8 +126,8 @@ fn read_remove_file(alloc: Global, members: &Map<String, Value>) -> Result<Comma
 }
 
 #[tactic(auto, unfolding(crate::specs::Commands::set_block_in))]
-fn read_set_block(alloc: Global, members: &Map<String, Value>) -> Result<Command, ReadError>
-    ensures value { Reads command_view (set_block_in (members_view members.now.entries)) result }
+fn read_set_block(alloc: Global, members: &Members<'_>) -> Result<Command, ReadError>
+    ensures value { Reads command_view (set_block_in (members_view members.now.items)) result }
 {
     match both(
         required(alloc, members, "at"),
@@ -135,9 +138,9 @@ fn read_set_block(alloc: Global, members: &Map<String, Value>) -> Result<Command
     }
 }
 
-fn read_remove_block(alloc: Global, members: &Map<String, Value>) -> Result<Command, ReadError>
+fn read_remove_block(alloc: Global, members: &Members<'_>) -> Result<Command, ReadError>
     ensures value { Reads command_view
-        (fields_of Verb.RemoveBlock (members_view members.now.entries)) result }
+        (fields_of Verb.RemoveBlock (members_view members.now.items)) result }
 {
     match required(alloc, members, "at") {
         Ok(place) => Ok(Command::Edit(Edit::RemoveBlock { place })),
@@ -146,9 +149,9 @@ fn read_remove_block(alloc: Global, members: &Map<String, Value>) -> Result<Comm
 }
 
 #[tactic(auto, unfolding(crate::specs::Commands::unit_expansion_in))]
-fn read_unit_expansion(alloc: Global, members: &Map<String, Value>) -> Result<Command, ReadError>
+fn read_unit_expansion(alloc: Global, members: &Members<'_>) -> Result<Command, ReadError>
     ensures value { Reads command_view
-        (unit_expansion_in (members_view members.now.entries)) result }
+        (unit_expansion_in (members_view members.now.items)) result }
 {
     match both(required(alloc, members, "key"), read_entry(alloc, members)) {
         Ok((key, entry)) => Ok(Command::Edit(Edit::SetExpansion { key, entry })),
@@ -157,9 +160,9 @@ fn read_unit_expansion(alloc: Global, members: &Map<String, Value>) -> Result<Co
 }
 
 #[tactic(auto, unfolding(crate::specs::Commands::inner_expansion_in))]
-fn read_inner_expansion(alloc: Global, members: &Map<String, Value>) -> Result<Command, ReadError>
+fn read_inner_expansion(alloc: Global, members: &Members<'_>) -> Result<Command, ReadError>
     ensures value { Reads command_view
-        (inner_expansion_in (members_view members.now.entries)) result }
+        (inner_expansion_in (members_view members.now.items)) result }
 {
     match both(required(alloc, members, "key"), read_inner(alloc, members)) {
         Ok((key, (inner, error))) => Ok(Command::Edit(Edit::SetInnerPaths { key, inner, error })),
@@ -168,9 +171,9 @@ fn read_inner_expansion(alloc: Global, members: &Map<String, Value>) -> Result<C
 }
 
 #[tactic(auto, unfolding(crate::specs::Commands::set_expansion_in))]
-fn read_set_expansion(alloc: Global, members: &Map<String, Value>) -> Result<Command, ReadError>
+fn read_set_expansion(alloc: Global, members: &Members<'_>) -> Result<Command, ReadError>
     ensures value { Reads command_view
-        (set_expansion_in (members_view members.now.entries)) result }
+        (set_expansion_in (members_view members.now.items)) result }
 {
     if !has_member(members, "inner") {
         return read_unit_expansion(alloc, members);
@@ -181,9 +184,9 @@ fn read_set_expansion(alloc: Global, members: &Map<String, Value>) -> Result<Com
     read_inner_expansion(alloc, members)
 }
 
-fn read_remove_expansion(alloc: Global, members: &Map<String, Value>) -> Result<Command, ReadError>
+fn read_remove_expansion(alloc: Global, members: &Members<'_>) -> Result<Command, ReadError>
     ensures value { Reads command_view
-        (fields_of Verb.RemoveExpansion (members_view members.now.entries)) result }
+        (fields_of Verb.RemoveExpansion (members_view members.now.items)) result }
 {
     match required(alloc, members, "key") {
         Ok(key) => Ok(Command::Edit(Edit::RemoveExpansion { key })),
@@ -193,8 +196,8 @@ fn read_remove_expansion(alloc: Global, members: &Map<String, Value>) -> Result<
 
 /// The object's root file, and whether it is a procedural macro's, are read and left aside.
 #[tactic(auto, unfolding(crate::specs::Commands::set_crate_in))]
-fn read_set_crate(alloc: Global, members: &Map<String, Value>) -> Result<Command, ReadError>
-    ensures value { Reads command_view (set_crate_in (members_view members.now.entries)) result }
+fn read_set_crate(alloc: Global, members: &Members<'_>) -> Result<Command, ReadError>
+    ensures value { Reads command_view (set_crate_in (members_view members.now.items)) result }
 {
     match both(
         required::<Crate>(alloc, members, "crate"),
@@ -212,8 +215,8 @@ fn read_set_crate(alloc: Global, members: &Map<String, Value>) -> Result<Command
 }
 
 #[tactic(auto, unfolding(crate::specs::Commands::resolve_in))]
-fn read_resolve(alloc: Global, members: &Map<String, Value>) -> Result<Command, ReadError>
-    ensures value { Reads command_view (resolve_in (members_view members.now.entries)) result }
+fn read_resolve(alloc: Global, members: &Members<'_>) -> Result<Command, ReadError>
+    ensures value { Reads command_view (resolve_in (members_view members.now.items)) result }
 {
     match both(
         both(
@@ -235,9 +238,9 @@ fn read_resolve(alloc: Global, members: &Map<String, Value>) -> Result<Command, 
     }
 }
 
-fn read_begin(alloc: Global, members: &Map<String, Value>) -> Result<Command, ReadError>
+fn read_begin(alloc: Global, members: &Members<'_>) -> Result<Command, ReadError>
     ensures value { Reads command_view
-        (fields_of Verb.Crates (members_view members.now.entries)) result }
+        (fields_of Verb.Crates (members_view members.now.items)) result }
 {
     match required(alloc, members, "crates") {
         Ok(crates) => Ok(Command::Crates(crates)),
@@ -246,8 +249,8 @@ fn read_begin(alloc: Global, members: &Map<String, Value>) -> Result<Command, Re
 }
 
 #[tactic(auto, unfolding(crate::specs::Commands::trait_items_in))]
-fn read_trait_items(alloc: Global, members: &Map<String, Value>) -> Result<Command, ReadError>
-    ensures value { Reads command_view (trait_items_in (members_view members.now.entries)) result }
+fn read_trait_items(alloc: Global, members: &Members<'_>) -> Result<Command, ReadError>
+    ensures value { Reads command_view (trait_items_in (members_view members.now.items)) result }
 {
     match both(
         required(alloc, members, "at"),
@@ -259,8 +262,8 @@ fn read_trait_items(alloc: Global, members: &Map<String, Value>) -> Result<Comma
 }
 
 #[tactic(auto, unfolding(crate::specs::Commands::impl_items_in))]
-fn read_impl_items(alloc: Global, members: &Map<String, Value>) -> Result<Command, ReadError>
-    ensures value { Reads command_view (impl_items_in (members_view members.now.entries)) result }
+fn read_impl_items(alloc: Global, members: &Members<'_>) -> Result<Command, ReadError>
+    ensures value { Reads command_view (impl_items_in (members_view members.now.items)) result }
 {
     match both(
         required(alloc, members, "at"),
@@ -271,9 +274,9 @@ fn read_impl_items(alloc: Global, members: &Map<String, Value>) -> Result<Comman
     }
 }
 
-fn read_dump(alloc: Global, members: &Map<String, Value>) -> Result<Command, ReadError>
+fn read_dump(alloc: Global, members: &Members<'_>) -> Result<Command, ReadError>
     ensures value { Reads command_view
-        (fields_of Verb.Dump (members_view members.now.entries)) result }
+        (fields_of Verb.Dump (members_view members.now.items)) result }
 {
     match required(alloc, members, "at") {
         Ok(at) => Ok(Command::Dump { at }),
@@ -281,9 +284,9 @@ fn read_dump(alloc: Global, members: &Map<String, Value>) -> Result<Command, Rea
     }
 }
 
-fn read_status(alloc: Global, members: &Map<String, Value>) -> Result<Command, ReadError>
+fn read_status(alloc: Global, members: &Members<'_>) -> Result<Command, ReadError>
     ensures value { Reads command_view
-        (fields_of Verb.Status (members_view members.now.entries)) result }
+        (fields_of Verb.Status (members_view members.now.items)) result }
 {
     match required(alloc, members, "at") {
         Ok(at) => Ok(Command::Status { at }),
@@ -291,9 +294,9 @@ fn read_status(alloc: Global, members: &Map<String, Value>) -> Result<Command, R
     }
 }
 
-fn read_diagnostics(alloc: Global, members: &Map<String, Value>) -> Result<Command, ReadError>
+fn read_diagnostics(alloc: Global, members: &Members<'_>) -> Result<Command, ReadError>
     ensures value { Reads command_view
-        (fields_of Verb.Diagnostics (members_view members.now.entries)) result }
+        (fields_of Verb.Diagnostics (members_view members.now.items)) result }
 {
     match required(alloc, members, "crate") {
         Ok(krate) => Ok(Command::Diagnostics { krate }),
@@ -301,9 +304,9 @@ fn read_diagnostics(alloc: Global, members: &Map<String, Value>) -> Result<Comma
     }
 }
 
-fn read_names(alloc: Global, members: &Map<String, Value>) -> Result<Command, ReadError>
+fn read_names(alloc: Global, members: &Members<'_>) -> Result<Command, ReadError>
     ensures value { Reads command_view
-        (fields_of Verb.Names (members_view members.now.entries)) result }
+        (fields_of Verb.Names (members_view members.now.items)) result }
 {
     match required(alloc, members, "at") {
         Ok(at) => Ok(Command::Names { at }),
@@ -311,9 +314,9 @@ fn read_names(alloc: Global, members: &Map<String, Value>) -> Result<Command, Re
     }
 }
 
-fn read_crate_modules(alloc: Global, members: &Map<String, Value>) -> Result<Command, ReadError>
+fn read_crate_modules(alloc: Global, members: &Members<'_>) -> Result<Command, ReadError>
     ensures value { Reads command_view
-        (made crate_modules (required crate_of (codes "crate") (members_view members.now.entries))) result }
+        (made crate_modules (required crate_of (codes "crate") (members_view members.now.items))) result }
 {
     match required(alloc, members, "crate") {
         Ok(krate) => Ok(Command::CrateModules { krate }),
@@ -321,9 +324,9 @@ fn read_crate_modules(alloc: Global, members: &Map<String, Value>) -> Result<Com
     }
 }
 
-fn read_file_modules(alloc: Global, members: &Map<String, Value>) -> Result<Command, ReadError>
+fn read_file_modules(alloc: Global, members: &Members<'_>) -> Result<Command, ReadError>
     ensures value { Reads command_view
-        (made file_modules (required file_of (codes "file") (members_view members.now.entries))) result }
+        (made file_modules (required file_of (codes "file") (members_view members.now.items))) result }
 {
     let file = required(alloc, members, "file");
     match file {
@@ -334,8 +337,8 @@ fn read_file_modules(alloc: Global, members: &Map<String, Value>) -> Result<Comm
 
 /// The modules are asked for by a crate or by a file, and not by both.
 #[tactic(auto, unfolding(crate::specs::Commands::modules_in))]
-fn read_modules(alloc: Global, members: &Map<String, Value>) -> Result<Command, ReadError>
-    ensures value { Reads command_view (modules_in (members_view members.now.entries)) result }
+fn read_modules(alloc: Global, members: &Members<'_>) -> Result<Command, ReadError>
+    ensures value { Reads command_view (modules_in (members_view members.now.items)) result }
 {
     match (has_member(members, "crate"), has_member(members, "file")) {
         (true, false) => read_crate_modules(alloc, members),
@@ -345,8 +348,8 @@ fn read_modules(alloc: Global, members: &Map<String, Value>) -> Result<Command, 
 }
 
 #[tactic(auto, unfolding(crate::specs::Commands::tree_in))]
-fn read_tree(alloc: Global, members: &Map<String, Value>) -> Result<Command, ReadError>
-    ensures value { Reads command_view (tree_in (members_view members.now.entries)) result }
+fn read_tree(alloc: Global, members: &Members<'_>) -> Result<Command, ReadError>
+    ensures value { Reads command_view (tree_in (members_view members.now.items)) result }
 {
     match both(
         required(alloc, members, "crate"),
@@ -360,10 +363,10 @@ fn read_tree(alloc: Global, members: &Map<String, Value>) -> Result<Command, Rea
 fn read_verb_fields(
     alloc: Global,
     verb: Verb,
-    members: &Map<String, Value>,
+    members: &Members<'_>,
 ) -> Result<Command, ReadError>
     ensures value { Reads command_view
-        (fields_of verb (members_view members.now.entries)) result }
+        (fields_of verb (members_view members.now.items)) result }
 {
     match verb {
         Verb::Crates => read_begin(alloc, members),
@@ -387,10 +390,10 @@ fn read_verb_fields(
     }
 }
 
-fn read_command_members(alloc: Global, members: &Map<String, Value>) -> Result<Command, ReadError>
+fn read_command_members(alloc: Global, members: &Members<'_>) -> Result<Command, ReadError>
     ensures value { Reads command_view
-        (command_with (required (word_as verb_of_word) (codes "do") (members_view members.now.entries))
-        (members_view members.now.entries)) result }
+        (command_with (required (word_as verb_of_word) (codes "do") (members_view members.now.items))
+        (members_view members.now.items)) result }
 {
     match required_word(members, "do") {
         Ok(verb) => read_verb_fields(alloc, verb, members),
@@ -398,7 +401,7 @@ fn read_command_members(alloc: Global, members: &Map<String, Value>) -> Result<C
     }
 }
 
-fn read_value(alloc: Global, value: &Value) -> Result<Command, ReadError>
+fn read_value(alloc: Global, value: &Value<'_>) -> Result<Command, ReadError>
     ensures value { Reads command_view (command_of (view value.now)) result }
 {
     match value {
@@ -407,12 +410,33 @@ fn read_value(alloc: Global, value: &Value) -> Result<Command, ReadError>
     }
 }
 
-fn parse_line(alloc: Global, line: &[u8]) -> Result<Value, ReadError>
-    ensures value { MatchResult result (λ v. data_of line.now ≡ Some (view v))
+/// The value of a line, and whether a number in it may be a float.
+fn parse_line<'t>(
+    alloc: Global,
+    line: &'t [u8],
+    scratch: &'t mut Scratch,
+) -> Result<(Value<'t>, bool), ReadError>
+    ensures value { MatchResult result (λ r. data_of line.now ≡ Some (view r.0))
+        (λ e. e ≢ ReadError.Memory → (e ≡ ReadError.Json) × (data_of line.now ≡ None)) }
+    ensures float { IfOk result (λ r. r.1 ≡ false → has_float (view r.0) ≡ false) }
+{
+    let Ok(text) = std::str::from_utf8(line) else {
+        return Err(ReadError::Json);
+    };
+    match parse(alloc, text, scratch) {
+        Ok(read) => Ok(read),
+        Err(ParseError::Json) => Err(ReadError::Json),
+        Err(ParseError::Memory) => Err(ReadError::Memory),
+    }
+}
+
+/// Whether a float stands in the line. One that a later member of the same name replaces doesn't.
+fn float_stands(alloc: Global, line: &[u8]) -> Result<bool, ReadError>
+    ensures value { MatchResult result (λ b. IfSome (data_of line.now) (λ d. b ≡ has_float d))
         (λ e. e ≢ ReadError.Memory → (e ≡ ReadError.Json) × (data_of line.now ≡ None)) }
 {
-    match Value::from_slice(alloc, line) {
-        Ok(value) => Ok(value),
+    match serde_json::Value::from_slice(alloc, line) {
+        Ok(value) => Ok(holds_float(&value)),
         Err(refused) if refused.is_memory() => Err(ReadError::Memory),
         Err(_) => Err(ReadError::Json),
     }
@@ -426,8 +450,9 @@ pub fn read_command(alloc: Global, line: &[u8]) -> Result<Command, ReadError>
     ensures value { MatchResult result (λ c. reading_of line.now ≡ Ok (command_view c))
         (λ e. e ≢ ReadError.Memory → reading_of line.now ≡ Err e) }
 {
-    let value = parse_line(alloc, line)?;
-    if holds_float(&value) {
+    let mut scratch = Scratch::new(alloc);
+    let (value, may_hold_float) = parse_line(alloc, line, &mut scratch)?;
+    if may_hold_float && float_stands(alloc, line)? {
         return Err(ReadError::Command);
     }
     read_value(alloc, &value)

@@ -1,6 +1,6 @@
 //! Definitions of macros.
 ghost use Rattle.std.specs.Prelude.{◌≡◌};
-ghost use Rattle.serde_json.specs.View.{members_view, items_view};
+ghost use Rattle.hir_wire.specs.Values.{members_view, items_view};
 ghost use Rattle.hir_item_tree.specs.Source.{macro_view};
 ghost use Rattle.hir_wire.specs.ItemParts.{kind_view};
 ghost use Rattle.hir_wire.specs.Macros.{style_of_word, either_styles, all_styles, expander_with, definition_in, macro_rules_in, macro_def_in};
@@ -12,7 +12,7 @@ use crate::json::words::{Word, optional_word, read_words};
 use crate::read_error::ReadError;
 use hir_base::macro_kind::{MacroCallStyles, MacroExpander};
 use hir_item_tree::source::{MacroDefinition, NodeKind};
-use serde_json::{Map, Value};
+use crate::json::value::{Members, Value};
 use std::alloc::Global;
 
 impl Word for MacroCallStyles {
@@ -54,7 +54,7 @@ fn all_styles(styles: &[MacroCallStyles]) -> MacroCallStyles
     all
 }
 
-fn read_styles(alloc: Global, items: &[Value]) -> Result<MacroCallStyles, ReadError>
+fn read_styles(alloc: Global, items: &[Value<'_>]) -> Result<MacroCallStyles, ReadError>
     ensures value { Reads (λ s. s) (made all_styles (each_of (word_as style_of_word)
         (items_view items.now))) result }
 {
@@ -74,7 +74,7 @@ impl FromJson for MacroCallStyles {
 
     ghost meaning = { styles_of };
 
-    fn read(alloc: Global, value: &Value) -> Result<MacroCallStyles, ReadError> {
+    fn read(alloc: Global, value: &Value<'_>) -> Result<MacroCallStyles, ReadError> {
         match value {
             Value::Array(items) => read_styles(alloc, items.as_slice()),
             _ => Err(ReadError::Command),
@@ -112,9 +112,9 @@ fn expander_with(builtin: Option<MacroExpander>, styles: MacroCallStyles) -> Mac
 #[tactic(auto, unfolding(crate::specs::Macros::definition_in))]
 fn read_definition(
     alloc: Global,
-    members: &Map<String, Value>,
+    members: &Members<'_>,
 ) -> Result<MacroDefinition, ReadError>
-    ensures value { Reads macro_view (definition_in (members_view members.now.entries)) result }
+    ensures value { Reads macro_view (definition_in (members_view members.now.items)) result }
 {
     match both(
         both(
@@ -136,8 +136,8 @@ fn read_definition(
 }
 
 #[tactic(auto, unfolding(crate::specs::Macros::macro_rules_in))]
-pub fn read_macro_rules(alloc: Global, members: &Map<String, Value>) -> Result<NodeKind, ReadError>
-    ensures value { Reads kind_view (macro_rules_in (members_view members.now.entries)) result }
+pub fn read_macro_rules(alloc: Global, members: &Members<'_>) -> Result<NodeKind, ReadError>
+    ensures value { Reads kind_view (macro_rules_in (members_view members.now.items)) result }
 {
     match both(
         required(alloc, members, "name"),
@@ -149,8 +149,8 @@ pub fn read_macro_rules(alloc: Global, members: &Map<String, Value>) -> Result<N
 }
 
 #[tactic(auto, unfolding(crate::specs::Macros::macro_def_in))]
-pub fn read_macro_def(alloc: Global, members: &Map<String, Value>) -> Result<NodeKind, ReadError>
-    ensures value { Reads kind_view (macro_def_in (members_view members.now.entries)) result }
+pub fn read_macro_def(alloc: Global, members: &Members<'_>) -> Result<NodeKind, ReadError>
+    ensures value { Reads kind_view (macro_def_in (members_view members.now.items)) result }
 {
     match both(
         required(alloc, members, "name"),

@@ -1,6 +1,6 @@
 //! Sources and their nodes.
 ghost use Rattle.std.specs.Prelude.{map, [], string_bytes, codes};
-ghost use Rattle.serde_json.specs.View.{view, members_view, items_view};
+ghost use Rattle.hir_wire.specs.Values.{view, members_view, items_view};
 ghost use Rattle.hir_item_tree.specs.Attributes.{attributes_view};
 ghost use Rattle.hir_item_tree.specs.Source.{node_view, source_view};
 ghost use Rattle.hir_wire.specs.ItemParts.{kind_view};
@@ -23,7 +23,7 @@ use hir_base::ast_id::{AstKind, SyntaxId};
 use hir_item_tree::raw_attr::RawAttr;
 use hir_item_tree::raw_visibility::{RawVisibility, VisibilityExplicitness};
 use hir_item_tree::source::{Node, NodeKind, Source, Unit};
-use serde_json::{Map, Value};
+use crate::json::value::{Members, Value};
 use std::alloc::Global;
 
 impl Word for AstKind {
@@ -58,14 +58,14 @@ impl Word for AstKind {
 #[tactic(auto, unfolding(crate::specs::Nodes::head_in))]
 fn read_head(
     alloc: Global,
-    members: &Map<String, Value>,
+    members: &Members<'_>,
 ) -> Result<((SyntaxId, RawVisibility), (Vec<RawAttr>, String)), ReadError>
     ensures value { Reads (λ p. record {
       id = p.0.0;
       attributes = attributes_view p.1.0.items;
       visibility = p.0.1;
       input = string_bytes p.1.1;
-    }) (head_in (members_view members.now.entries)) result }
+    }) (head_in (members_view members.now.items)) result }
 {
     let private = RawVisibility::PubSelf(VisibilityExplicitness::Implicit);
     match both(
@@ -84,9 +84,9 @@ fn read_head(
 }
 
 #[tactic(auto, unfolding(crate::specs::Nodes::outline_module_in))]
-fn read_outline_module(alloc: Global, members: &Map<String, Value>) -> Result<NodeKind, ReadError>
+fn read_outline_module(alloc: Global, members: &Members<'_>) -> Result<NodeKind, ReadError>
     ensures value { Reads kind_view
-        (outline_module_in (members_view members.now.entries)) result }
+        (outline_module_in (members_view members.now.items)) result }
 {
     match required(alloc, members, "name") {
         Ok(name) => Ok(NodeKind::Module { name, nodes: None }),
@@ -95,7 +95,7 @@ fn read_outline_module(alloc: Global, members: &Map<String, Value>) -> Result<No
 }
 
 #[cycle(nodes)]
-fn read_node(alloc: Global, value: &Value) -> Result<Node, ReadError>
+fn read_node(alloc: Global, value: &Value<'_>) -> Result<Node, ReadError>
     ensures value { Reads node_view (node_of (view value.now)) result }
 {
     match value {
@@ -105,10 +105,10 @@ fn read_node(alloc: Global, value: &Value) -> Result<Node, ReadError>
 }
 
 #[cycle(nodes)]
-fn read_node_members(alloc: Global, members: &Map<String, Value>) -> Result<Node, ReadError>
-    ensures value { Reads node_view (node_with (members_view members.now.entries)
-        (nodes_in (codes "nodes") (members_view members.now.entries))
-        (nodes_in (codes "items") (members_view members.now.entries))) result }
+fn read_node_members(alloc: Global, members: &Members<'_>) -> Result<Node, ReadError>
+    ensures value { Reads node_view (node_with (members_view members.now.items)
+        (nodes_in (codes "nodes") (members_view members.now.items))
+        (nodes_in (codes "items") (members_view members.now.items))) result }
 {
     let kind = match required_word(members, "kind") {
         Ok(kind) => kind,
@@ -130,11 +130,11 @@ fn read_node_members(alloc: Global, members: &Map<String, Value>) -> Result<Node
 fn read_parts(
     alloc: Global,
     kind: AstKind,
-    members: &Map<String, Value>,
+    members: &Members<'_>,
 ) -> Result<NodeKind, ReadError>
-    ensures value { Reads kind_view (parts_in kind (members_view members.now.entries)
-        (nodes_in (codes "nodes") (members_view members.now.entries))
-        (nodes_in (codes "items") (members_view members.now.entries))) result }
+    ensures value { Reads kind_view (parts_in kind (members_view members.now.items)
+        (nodes_in (codes "nodes") (members_view members.now.items))
+        (nodes_in (codes "items") (members_view members.now.items))) result }
 {
     match kind {
         AstKind::Use => read_use(alloc, members),
@@ -159,9 +159,9 @@ fn read_parts(
 
 #[cycle(nodes)]
 #[tactic(auto, unfolding(crate::specs::Nodes::extern_block_in))]
-fn read_extern_block(alloc: Global, members: &Map<String, Value>) -> Result<NodeKind, ReadError>
+fn read_extern_block(alloc: Global, members: &Members<'_>) -> Result<NodeKind, ReadError>
     ensures value { Reads kind_view
-        (extern_block_in (nodes_in (codes "nodes") (members_view members.now.entries))) result }
+        (extern_block_in (nodes_in (codes "nodes") (members_view members.now.items))) result }
 {
     match nodes_field(alloc, members, "nodes") {
         Ok(nodes) => Ok(NodeKind::ExternBlock { nodes }),
@@ -171,9 +171,9 @@ fn read_extern_block(alloc: Global, members: &Map<String, Value>) -> Result<Node
 
 #[cycle(nodes)]
 #[tactic(auto, unfolding(crate::specs::Nodes::trait_in))]
-fn read_trait(alloc: Global, members: &Map<String, Value>) -> Result<NodeKind, ReadError>
-    ensures value { Reads kind_view (trait_in (members_view members.now.entries)
-        (nodes_in (codes "items") (members_view members.now.entries))) result }
+fn read_trait(alloc: Global, members: &Members<'_>) -> Result<NodeKind, ReadError>
+    ensures value { Reads kind_view (trait_in (members_view members.now.items)
+        (nodes_in (codes "items") (members_view members.now.items))) result }
 {
     match both(
         required(alloc, members, "name"),
@@ -186,9 +186,9 @@ fn read_trait(alloc: Global, members: &Map<String, Value>) -> Result<NodeKind, R
 
 #[cycle(nodes)]
 #[tactic(auto, unfolding(crate::specs::Nodes::impl_in))]
-fn read_impl(alloc: Global, members: &Map<String, Value>) -> Result<NodeKind, ReadError>
-    ensures value { Reads kind_view (impl_in (members_view members.now.entries)
-        (nodes_in (codes "items") (members_view members.now.entries))) result }
+fn read_impl(alloc: Global, members: &Members<'_>) -> Result<NodeKind, ReadError>
+    ensures value { Reads kind_view (impl_in (members_view members.now.items)
+        (nodes_in (codes "items") (members_view members.now.items))) result }
 {
     match both(
         required(alloc, members, "trait"),
@@ -200,9 +200,9 @@ fn read_impl(alloc: Global, members: &Map<String, Value>) -> Result<NodeKind, Re
 }
 
 #[cycle(nodes)]
-fn read_module(alloc: Global, members: &Map<String, Value>) -> Result<NodeKind, ReadError>
-    ensures value { Reads kind_view (module_in (members_view members.now.entries)
-        (nodes_in (codes "nodes") (members_view members.now.entries))) result }
+fn read_module(alloc: Global, members: &Members<'_>) -> Result<NodeKind, ReadError>
+    ensures value { Reads kind_view (module_in (members_view members.now.items)
+        (nodes_in (codes "nodes") (members_view members.now.items))) result }
 {
     if has_member(members, "nodes") {
         return read_inline_module(alloc, members);
@@ -212,9 +212,9 @@ fn read_module(alloc: Global, members: &Map<String, Value>) -> Result<NodeKind, 
 
 #[cycle(nodes)]
 #[tactic(auto, unfolding(crate::specs::Nodes::inline_module_in))]
-fn read_inline_module(alloc: Global, members: &Map<String, Value>) -> Result<NodeKind, ReadError>
-    ensures value { Reads kind_view (inline_module_in (members_view members.now.entries)
-        (nodes_in (codes "nodes") (members_view members.now.entries))) result }
+fn read_inline_module(alloc: Global, members: &Members<'_>) -> Result<NodeKind, ReadError>
+    ensures value { Reads kind_view (inline_module_in (members_view members.now.items)
+        (nodes_in (codes "nodes") (members_view members.now.items))) result }
 {
     match both(
         required(alloc, members, "name"),
@@ -231,11 +231,11 @@ fn read_inline_module(alloc: Global, members: &Map<String, Value>) -> Result<Nod
 #[cycle(nodes)]
 fn nodes_field(
     alloc: Global,
-    members: &Map<String, Value>,
+    members: &Members<'_>,
     name: &str,
 ) -> Result<Vec<Node>, ReadError>
     ensures value { Reads (λ v. map node_view v.items)
-        (nodes_in name.now (members_view members.now.entries)) result }
+        (nodes_in name.now (members_view members.now.items)) result }
 {
     match field(members, name) {
         Some(value) => read_nodes(alloc, value),
@@ -244,7 +244,7 @@ fn nodes_field(
 }
 
 #[cycle(nodes)]
-fn read_nodes(alloc: Global, value: &Value) -> Result<Vec<Node>, ReadError>
+fn read_nodes(alloc: Global, value: &Value<'_>) -> Result<Vec<Node>, ReadError>
     ensures value { Reads (λ v. map node_view v.items) (node_list_of (view value.now)) result }
 {
     match value {
@@ -254,7 +254,7 @@ fn read_nodes(alloc: Global, value: &Value) -> Result<Vec<Node>, ReadError>
 }
 
 #[cycle(nodes)]
-fn read_items(alloc: Global, items: &Vec<Value>) -> Result<Vec<Node>, ReadError>
+fn read_items(alloc: Global, items: &Vec<Value<'_>>) -> Result<Vec<Node>, ReadError>
     ensures value { Reads (λ v. map node_view v.items) (nodes_of (items_view items.now.items)) result }
 {
     let mut parts = Parts::new(alloc);
@@ -265,9 +265,9 @@ fn read_items(alloc: Global, items: &Vec<Value>) -> Result<Vec<Node>, ReadError>
 }
 
 #[tactic(auto, unfolding(crate::specs::Reading::optional))]
-fn unit_nodes(alloc: Global, members: &Map<String, Value>) -> Result<Vec<Node>, ReadError>
+fn unit_nodes(alloc: Global, members: &Members<'_>) -> Result<Vec<Node>, ReadError>
     ensures value { Reads (λ v. map node_view v.items)
-        (optional [] node_list_of (codes "nodes") (members_view members.now.entries)) result }
+        (optional [] node_list_of (codes "nodes") (members_view members.now.items)) result }
 {
     match field(members, "nodes") {
         Some(value) => read_nodes(alloc, value),
@@ -276,8 +276,8 @@ fn unit_nodes(alloc: Global, members: &Map<String, Value>) -> Result<Vec<Node>, 
 }
 
 #[tactic(auto, unfolding(crate::specs::Nodes::unit_in))]
-fn read_unit(alloc: Global, members: &Map<String, Value>) -> Result<Source, ReadError>
-    ensures value { Reads source_view (unit_in (members_view members.now.entries)) result }
+fn read_unit(alloc: Global, members: &Members<'_>) -> Result<Source, ReadError>
+    ensures value { Reads source_view (unit_in (members_view members.now.items)) result }
 {
     match both(attrs_field(alloc, members), unit_nodes(alloc, members)) {
         Ok((attrs, nodes)) => Ok(Source::Unit(Unit { attrs, nodes })),
@@ -295,10 +295,10 @@ impl FromJson for Source {
 
     ghost meaning = { source_of };
 
-    fn read(alloc: Global, value: &Value) -> Result<Source, ReadError> {
+    fn read(alloc: Global, value: &Value<'_>) -> Result<Source, ReadError> {
         match value {
             Value::Object(members) => read_unit(alloc, members),
-            Value::String(word) if word.as_str() == "broken" => Ok(Source::Broken),
+            Value::String(word) if *word == "broken" => Ok(Source::Broken),
             _ => Err(ReadError::Command),
         }
     }

@@ -1,6 +1,6 @@
 //! Names, paths, files, ids and crates.
 ghost use Rattle.std.specs.Prelude.{◌≡◌};
-ghost use Rattle.serde_json.specs.View.{view, items_view};
+ghost use Rattle.hir_wire.specs.Values.{view, items_view};
 ghost use Rattle.hir_wire.specs.Reading.{Reads};
 ghost use Rattle.hir_wire.specs.Paths.{name_meant, path_meant, file_meant, natural_of, id_of, id_of_items};
 
@@ -12,7 +12,7 @@ use hir_base::ids::Crate;
 use hir_base::limit::Limit;
 use hir_base::mod_path::{ModPath, ParseError};
 use hir_base::name::{Name, NameError};
-use serde_json::Value;
+use crate::json::value::Value;
 use std::alloc::Global;
 
 #[tactic(auto, unfolding(crate::specs::Paths::name_meant))]
@@ -61,7 +61,7 @@ impl FromJson for Name {
 
     ghost meaning = { name_of };
 
-    fn read(alloc: Global, value: &Value) -> Result<Name, ReadError> {
+    fn read(alloc: Global, value: &Value<'_>) -> Result<Name, ReadError> {
         match value.as_str() {
             Some(text) => name_of_text(alloc, text),
             None => Err(ReadError::Command),
@@ -79,7 +79,7 @@ impl FromJson for ModPath {
 
     ghost meaning = { path_of };
 
-    fn read(alloc: Global, value: &Value) -> Result<ModPath, ReadError> {
+    fn read(alloc: Global, value: &Value<'_>) -> Result<ModPath, ReadError> {
         match value.as_str() {
             Some(text) => path_of_text(alloc, text),
             None => Err(ReadError::Command),
@@ -97,7 +97,7 @@ impl FromJson for FilePath {
 
     ghost meaning = { file_of };
 
-    fn read(alloc: Global, value: &Value) -> Result<FilePath, ReadError> {
+    fn read(alloc: Global, value: &Value<'_>) -> Result<FilePath, ReadError> {
         match value.as_str() {
             Some(text) => file_of_text(alloc, text),
             None => Err(ReadError::Command),
@@ -106,20 +106,20 @@ impl FromJson for FilePath {
 }
 
 #[tactic(auto, unfolding(crate::specs::Paths::natural_of))]
-fn read_u16(value: &Value) -> Option<u16>
+fn read_u16(value: &Value<'_>) -> Option<u16>
     ensures value { result ≡ natural_of 16 (view value.now) }
 {
     u16::try_from(value.as_u64()?).ok()
 }
 
 #[tactic(auto, unfolding(crate::specs::Paths::natural_of))]
-pub fn read_u32(value: &Value) -> Option<u32>
+pub fn read_u32(value: &Value<'_>) -> Option<u32>
     ensures value { result ≡ natural_of 32 (view value.now) }
 {
     u32::try_from(value.as_u64()?).ok()
 }
 
-fn read_pair(items: &[Value]) -> Option<SyntaxId>
+fn read_pair(items: &[Value<'_>]) -> Option<SyntaxId>
     ensures value { result ≡ id_of_items (items_view items.now) }
 {
     match items {
@@ -132,7 +132,7 @@ fn read_pair(items: &[Value]) -> Option<SyntaxId>
     }
 }
 
-fn id_of_value(value: &Value) -> Option<SyntaxId>
+fn id_of_value(value: &Value<'_>) -> Option<SyntaxId>
     ensures value { result ≡ id_of (view value.now) }
 {
     read_pair(value.as_array()?.as_slice())
@@ -148,7 +148,7 @@ impl FromJson for SyntaxId {
 
     ghost meaning = { id_meant };
 
-    fn read(_alloc: Global, value: &Value) -> Result<SyntaxId, ReadError> {
+    fn read(_alloc: Global, value: &Value<'_>) -> Result<SyntaxId, ReadError> {
         match id_of_value(value) {
             Some(id) => Ok(id),
             None => Err(ReadError::Command),
@@ -166,7 +166,7 @@ impl FromJson for u32 {
 
     ghost meaning = { number_of };
 
-    fn read(_alloc: Global, value: &Value) -> Result<u32, ReadError> {
+    fn read(_alloc: Global, value: &Value<'_>) -> Result<u32, ReadError> {
         match read_u32(value) {
             Some(number) => Ok(number),
             None => Err(ReadError::Command),
@@ -184,7 +184,7 @@ impl FromJson for Crate {
 
     ghost meaning = { crate_of };
 
-    fn read(_alloc: Global, value: &Value) -> Result<Crate, ReadError> {
+    fn read(_alloc: Global, value: &Value<'_>) -> Result<Crate, ReadError> {
         match read_u32(value) {
             Some(number) => Ok(Crate(number)),
             None => Err(ReadError::Command),

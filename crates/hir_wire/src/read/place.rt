@@ -1,6 +1,6 @@
 //! Places.
 ghost use Rattle.std.specs.Prelude.{◌≡◌};
-ghost use Rattle.serde_json.specs.View.{view, items_view};
+ghost use Rattle.hir_wire.specs.Values.{view, items_view};
 ghost use Rattle.hir_wire.specs.Reading.{Reads, each_of, made, paired};
 ghost use Rattle.hir_wire.specs.Paths.{element_of, place_of_items, crate_of, block_step_of, block_place_of_items};
 
@@ -11,7 +11,7 @@ use crate::read_error::ReadError;
 use hir_base::ast_id::SyntaxId;
 use hir_base::ids::Crate;
 use hir_base::place::{BlockPlace, Place, PlaceElement};
-use serde_json::Value;
+use crate::json::value::Value;
 use std::alloc::Global;
 
 impl FromJson for PlaceElement {
@@ -24,16 +24,16 @@ impl FromJson for PlaceElement {
 
     ghost meaning = { element_of };
 
-    fn read(alloc: Global, value: &Value) -> Result<PlaceElement, ReadError> {
+    fn read(alloc: Global, value: &Value<'_>) -> Result<PlaceElement, ReadError> {
         match value {
-            Value::String(name) => Ok(PlaceElement::Module(name_of_text(alloc, name.as_str())?)),
+            Value::String(name) => Ok(PlaceElement::Module(name_of_text(alloc, *name)?)),
             Value::Object(members) => Ok(PlaceElement::Block(required(alloc, members, "block")?)),
             _ => Err(ReadError::Command),
         }
     }
 }
 
-fn read_from_crate(alloc: Global, first: &Value, others: &[Value]) -> Result<Place, ReadError>
+fn read_from_crate(alloc: Global, first: &Value<'_>, others: &[Value<'_>]) -> Result<Place, ReadError>
     ensures value { Reads (λ p. p) (made (λ p. record { krate = p.0; elements = p.1 })
         (paired (crate_of (view first.now)) (each_of element_of (items_view others.now)))) result }
 {
@@ -43,7 +43,7 @@ fn read_from_crate(alloc: Global, first: &Value, others: &[Value]) -> Result<Pla
     }
 }
 
-fn read_steps(alloc: Global, items: &[Value]) -> Result<Place, ReadError>
+fn read_steps(alloc: Global, items: &[Value<'_>]) -> Result<Place, ReadError>
     ensures value { Reads (λ p. p) (place_of_items (items_view items.now)) result }
 {
     match items.split_first() {
@@ -62,7 +62,7 @@ impl FromJson for Place {
 
     ghost meaning = { place_of };
 
-    fn read(alloc: Global, value: &Value) -> Result<Place, ReadError> {
+    fn read(alloc: Global, value: &Value<'_>) -> Result<Place, ReadError> {
         match value {
             Value::Array(items) => read_steps(alloc, items.as_slice()),
             _ => Err(ReadError::Command),
@@ -70,7 +70,7 @@ impl FromJson for Place {
     }
 }
 
-fn read_block_step(alloc: Global, value: &Value) -> Result<SyntaxId, ReadError>
+fn read_block_step(alloc: Global, value: &Value<'_>) -> Result<SyntaxId, ReadError>
     ensures value { Reads (λ id. id) (block_step_of (view value.now)) result }
 {
     match value {
@@ -79,7 +79,7 @@ fn read_block_step(alloc: Global, value: &Value) -> Result<SyntaxId, ReadError>
     }
 }
 
-fn read_block_in(alloc: Global, holder: &[Value], last: &Value) -> Result<BlockPlace, ReadError>
+fn read_block_in(alloc: Global, holder: &[Value<'_>], last: &Value<'_>) -> Result<BlockPlace, ReadError>
     ensures value { Reads (λ b. b) (made (λ p. record { holder = p.0; id = p.1 })
         (paired (place_of_items (items_view holder.now)) (block_step_of (view last.now)))) result }
 {
@@ -89,7 +89,7 @@ fn read_block_in(alloc: Global, holder: &[Value], last: &Value) -> Result<BlockP
     }
 }
 
-fn read_block_steps(alloc: Global, items: &[Value]) -> Result<BlockPlace, ReadError>
+fn read_block_steps(alloc: Global, items: &[Value<'_>]) -> Result<BlockPlace, ReadError>
     ensures value { Reads (λ b. b) (block_place_of_items (items_view items.now)) result }
 {
     match items.split_last() {
@@ -108,7 +108,7 @@ impl FromJson for BlockPlace {
 
     ghost meaning = { block_place_of };
 
-    fn read(alloc: Global, value: &Value) -> Result<BlockPlace, ReadError> {
+    fn read(alloc: Global, value: &Value<'_>) -> Result<BlockPlace, ReadError> {
         match value {
             Value::Array(items) => read_block_steps(alloc, items.as_slice()),
             _ => Err(ReadError::Command),

@@ -1,6 +1,6 @@
 //! Use trees.
 ghost use Rattle.std.specs.Prelude.{map};
-ghost use Rattle.serde_json.specs.View.{view, members_view, items_view};
+ghost use Rattle.hir_wire.specs.Values.{view, members_view, items_view};
 ghost use Rattle.hir_item_tree.specs.UseTree.{use_tree_view};
 ghost use Rattle.hir_wire.specs.Reading.{Reads};
 ghost use Rattle.hir_wire.specs.UseTrees.{alias_meant, single_in, glob_in, leaf_in, prefixed_in, branch_in, tree_with, tree_of, trees_in, tree_list_of, trees_of};
@@ -13,7 +13,7 @@ use crate::read_error::ReadError;
 use hir_base::mod_path::ModPath;
 use hir_item_tree::shape::ImportAlias;
 use hir_item_tree::use_tree::{UseTree, UseTreeKind};
-use serde_json::{Map, Value};
+use crate::json::value::{Members, Value};
 use std::alloc::Global;
 
 fn alias_of_text(alloc: Global, text: &str) -> Result<ImportAlias, ReadError>
@@ -38,7 +38,7 @@ impl FromJson for ImportAlias {
 
     ghost meaning = { alias_of };
 
-    fn read(alloc: Global, value: &Value) -> Result<ImportAlias, ReadError> {
+    fn read(alloc: Global, value: &Value<'_>) -> Result<ImportAlias, ReadError> {
         match value.as_str() {
             Some(text) => alias_of_text(alloc, text),
             None => Err(ReadError::Command),
@@ -47,8 +47,8 @@ impl FromJson for ImportAlias {
 }
 
 #[tactic(auto, unfolding(crate::specs::UseTrees::single_in))]
-fn read_single(alloc: Global, members: &Map<String, Value>) -> Result<UseTree, ReadError>
-    ensures value { Reads use_tree_view (single_in (members_view members.now.entries)) result }
+fn read_single(alloc: Global, members: &Members<'_>) -> Result<UseTree, ReadError>
+    ensures value { Reads use_tree_view (single_in (members_view members.now.items)) result }
 {
     match both(
         required(alloc, members, "single"),
@@ -76,7 +76,7 @@ impl FromJson for GlobPath {
 
     ghost meaning = { glob_path_of };
 
-    fn read(alloc: Global, value: &Value) -> Result<GlobPath, ReadError> {
+    fn read(alloc: Global, value: &Value<'_>) -> Result<GlobPath, ReadError> {
         match value {
             Value::Null => Ok(GlobPath { path: None }),
             Value::String(_) => match ModPath::read(alloc, value) {
@@ -89,8 +89,8 @@ impl FromJson for GlobPath {
 }
 
 #[tactic(auto, unfolding(crate::specs::UseTrees::glob_in))]
-fn read_glob(alloc: Global, members: &Map<String, Value>) -> Result<UseTree, ReadError>
-    ensures value { Reads use_tree_view (glob_in (members_view members.now.entries)) result }
+fn read_glob(alloc: Global, members: &Members<'_>) -> Result<UseTree, ReadError>
+    ensures value { Reads use_tree_view (glob_in (members_view members.now.items)) result }
 {
     match required(alloc, members, "glob") {
         Ok(GlobPath { path }) => Ok(UseTree::new(UseTreeKind::Glob { path })),
@@ -98,8 +98,8 @@ fn read_glob(alloc: Global, members: &Map<String, Value>) -> Result<UseTree, Rea
     }
 }
 
-fn read_leaf(alloc: Global, members: &Map<String, Value>) -> Result<UseTree, ReadError>
-    ensures value { Reads use_tree_view (leaf_in (members_view members.now.entries)) result }
+fn read_leaf(alloc: Global, members: &Members<'_>) -> Result<UseTree, ReadError>
+    ensures value { Reads use_tree_view (leaf_in (members_view members.now.items)) result }
 {
     if has_member(members, "glob") {
         if has_member(members, "single") {
@@ -111,7 +111,7 @@ fn read_leaf(alloc: Global, members: &Map<String, Value>) -> Result<UseTree, Rea
 }
 
 #[cycle(trees)]
-fn read_tree(alloc: Global, value: &Value) -> Result<UseTree, ReadError>
+fn read_tree(alloc: Global, value: &Value<'_>) -> Result<UseTree, ReadError>
     ensures value { Reads use_tree_view (tree_of (view value.now)) result }
 {
     match value {
@@ -121,9 +121,9 @@ fn read_tree(alloc: Global, value: &Value) -> Result<UseTree, ReadError>
 }
 
 #[cycle(trees)]
-fn read_tree_members(alloc: Global, members: &Map<String, Value>) -> Result<UseTree, ReadError>
-    ensures value { Reads use_tree_view (tree_with (members_view members.now.entries)
-        (trees_in (members_view members.now.entries))) result }
+fn read_tree_members(alloc: Global, members: &Members<'_>) -> Result<UseTree, ReadError>
+    ensures value { Reads use_tree_view (tree_with (members_view members.now.items)
+        (trees_in (members_view members.now.items))) result }
 {
     if has_member(members, "list") {
         return read_branch(alloc, members);
@@ -132,9 +132,9 @@ fn read_tree_members(alloc: Global, members: &Map<String, Value>) -> Result<UseT
 }
 
 #[cycle(trees)]
-fn read_branch(alloc: Global, members: &Map<String, Value>) -> Result<UseTree, ReadError>
-    ensures value { Reads use_tree_view (branch_in (members_view members.now.entries)
-        (trees_in (members_view members.now.entries))) result }
+fn read_branch(alloc: Global, members: &Members<'_>) -> Result<UseTree, ReadError>
+    ensures value { Reads use_tree_view (branch_in (members_view members.now.items)
+        (trees_in (members_view members.now.items))) result }
 {
     if has_member(members, "single") {
         return Err(ReadError::Command);
@@ -147,9 +147,9 @@ fn read_branch(alloc: Global, members: &Map<String, Value>) -> Result<UseTree, R
 
 #[cycle(trees)]
 #[tactic(auto, unfolding(crate::specs::UseTrees::prefixed_in))]
-fn read_prefixed(alloc: Global, members: &Map<String, Value>) -> Result<UseTree, ReadError>
-    ensures value { Reads use_tree_view (prefixed_in (members_view members.now.entries)
-        (trees_in (members_view members.now.entries))) result }
+fn read_prefixed(alloc: Global, members: &Members<'_>) -> Result<UseTree, ReadError>
+    ensures value { Reads use_tree_view (prefixed_in (members_view members.now.items)
+        (trees_in (members_view members.now.items))) result }
 {
     match both(maybe(alloc, members, "path"), list_field(alloc, members)) {
         Ok((prefix, list)) => Ok(UseTree::new(UseTreeKind::Prefixed { prefix, list })),
@@ -158,9 +158,9 @@ fn read_prefixed(alloc: Global, members: &Map<String, Value>) -> Result<UseTree,
 }
 
 #[cycle(trees)]
-fn list_field(alloc: Global, members: &Map<String, Value>) -> Result<Vec<UseTree>, ReadError>
+fn list_field(alloc: Global, members: &Members<'_>) -> Result<Vec<UseTree>, ReadError>
     ensures value { Reads (λ v. map use_tree_view v.items)
-        (trees_in (members_view members.now.entries)) result }
+        (trees_in (members_view members.now.items)) result }
 {
     match field(members, "list") {
         Some(value) => read_trees(alloc, value),
@@ -169,7 +169,7 @@ fn list_field(alloc: Global, members: &Map<String, Value>) -> Result<Vec<UseTree
 }
 
 #[cycle(trees)]
-fn read_trees(alloc: Global, value: &Value) -> Result<Vec<UseTree>, ReadError>
+fn read_trees(alloc: Global, value: &Value<'_>) -> Result<Vec<UseTree>, ReadError>
     ensures value { Reads (λ v. map use_tree_view v.items) (tree_list_of (view value.now)) result }
 {
     match value {
@@ -179,7 +179,7 @@ fn read_trees(alloc: Global, value: &Value) -> Result<Vec<UseTree>, ReadError>
 }
 
 #[cycle(trees)]
-fn read_items(alloc: Global, items: &Vec<Value>) -> Result<Vec<UseTree>, ReadError>
+fn read_items(alloc: Global, items: &Vec<Value<'_>>) -> Result<Vec<UseTree>, ReadError>
     ensures value { Reads (λ v. map use_tree_view v.items)
         (trees_of (items_view items.now.items)) result }
 {
@@ -200,7 +200,7 @@ impl FromJson for UseTree {
 
     ghost meaning = { tree_of };
 
-    fn read(alloc: Global, value: &Value) -> Result<UseTree, ReadError> {
+    fn read(alloc: Global, value: &Value<'_>) -> Result<UseTree, ReadError> {
         read_tree(alloc, value)
     }
 }

@@ -1,7 +1,7 @@
 //! Visibilities.
 ghost use Rattle.std.specs.Prelude.{◌≡◌};
 ghost use Rattle.serde_json.specs.Data.{Data};
-ghost use Rattle.serde_json.specs.View.{members_view};
+ghost use Rattle.hir_wire.specs.Values.{members_view};
 ghost use Rattle.hir_wire.specs.Reading.{Reads};
 ghost use Rattle.hir_wire.specs.Visibility.{vis_of_word, vis_of};
 
@@ -9,7 +9,7 @@ use crate::json::combinators::required;
 use crate::json::from_json::FromJson;
 use crate::read_error::ReadError;
 use hir_item_tree::raw_visibility::{RawVisibility, VisibilityExplicitness};
-use serde_json::{Map, Value};
+use crate::json::value::{Members, Value};
 use std::alloc::Global;
 
 fn vis_of_word(word: &str) -> Option<RawVisibility>
@@ -32,9 +32,9 @@ fn read_vis_word(word: &str) -> Result<RawVisibility, ReadError>
     }
 }
 
-fn read_vis_in(alloc: Global, members: &Map<String, Value>) -> Result<RawVisibility, ReadError>
+fn read_vis_in(alloc: Global, members: &Members<'_>) -> Result<RawVisibility, ReadError>
     ensures value { Reads (λ v. v)
-        (vis_of (Data.object (members_view members.now.entries))) result }
+        (vis_of (Data.object (members_view members.now.items))) result }
 {
     match required(alloc, members, "in") {
         Ok(path) => Ok(RawVisibility::Module(path, VisibilityExplicitness::Explicit)),
@@ -52,10 +52,10 @@ impl FromJson for RawVisibility {
 
     ghost meaning = { vis_of };
 
-    fn read(alloc: Global, value: &Value) -> Result<RawVisibility, ReadError> {
+    fn read(alloc: Global, value: &Value<'_>) -> Result<RawVisibility, ReadError> {
         match value {
             Value::Null => Ok(RawVisibility::PubSelf(VisibilityExplicitness::Implicit)),
-            Value::String(word) => read_vis_word(word.as_str()),
+            Value::String(word) => read_vis_word(*word),
             Value::Object(members) => read_vis_in(alloc, members),
             _ => Err(ReadError::Command),
         }

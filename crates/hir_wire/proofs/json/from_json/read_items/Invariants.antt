@@ -1,5 +1,5 @@
 use Rattle.std.proofs.Common.{drop}
-use Rattle.serde_json.specs.View.{items_view}
+use Rattle.hir_wire.specs.Values.{items_view}
 use Rattle.hir_wire.specs.Inner.Parts.{read_so_far}
 use Rattle.hir_wire.specs.Reading.{each_of}
 use Rattle.hir_wire.proofs.ReadingLemmas.{Follows}

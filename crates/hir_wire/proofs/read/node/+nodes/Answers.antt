@@ -1,6 +1,6 @@
 use Rattle.std.proofs.Common.{◌≡◌, Some, None, Ok, Err, codes, sym, ap, ◌∙◌, subst, refl, arith}
 use Rattle.serde_json.specs.Find.{get_member}
-use Rattle.serde_json.specs.View.{view, members_view}
+use Rattle.hir_wire.specs.Values.{view, members_view}
 use Rattle.hir_ids.specs.declared.ast_id.AstKind.{AstKind}
 use Rattle.hir_item_tree.specs.Source.{node_view}
 use Rattle.hir_wire.specs.Nodes.{kind_of_word, node_of_kind, nodes_in, node_of, nodes_of, trait_in, impl_in, inline_module_in}
@@ -12,13 +12,13 @@ use Rattle.hir_wire.proofs.read.node.+nodes.Goals as goal
 -- the look-up finds the member whose nodes are meant
 pub nodes_field-returns-in-Some : goal.nodes_field-returns-in-Some
 nodes_field-returns-in-Some t c =
-    let found : get_member c.args.name.now (members_view c.args.members.now.entries) ≡ Some (view c.in-Some.value.now) = sym c.in-Some.ensures.value in
-    record { value = rw (nodes_in-get_member c.args.name.now (members_view c.args.members.now.entries), found) c.read_nodes.ensures.value }
+    let found : get_member c.args.name.now (members_view c.args.members.now.items) ≡ Some (view c.in-Some.value.now) = sym c.in-Some.ensures.value in
+    record { value = rw (nodes_in-get_member c.args.name.now (members_view c.args.members.now.items), found) c.read_nodes.ensures.value }
 
 pub nodes_field-returns-in-None : goal.nodes_field-returns-in-None
 nodes_field-returns-in-None t c =
-    let none : get_member c.args.name.now (members_view c.args.members.now.entries) ≡ None = sym c.in-None.ensures.value in
-    record { value = rw (nodes_in-get_member c.args.name.now (members_view c.args.members.now.entries), none) (record { told = refl }) }
+    let none : get_member c.args.name.now (members_view c.args.members.now.items) ≡ None = sym c.in-None.ensures.value in
+    record { value = rw (nodes_in-get_member c.args.name.now (members_view c.args.members.now.items), none) (record { told = refl }) }
 
 -- one more node was read
 pub read_items-loop-item-preserved : goal.read_items-loop-item-preserved
@@ -57,8 +57,8 @@ read_impl-returns-in-Err t c =
 
 pub read_node_members-returns-in-Err-both : goal.read_node_members-returns-in-Err-both
 read_node_members-returns-in-Err-both t c =
-    let ms = members_view c.args.members.now.entries in
-    let is : required (word_as kind_of_word) (codes "kind") (members_view c.args.members.now.entries) ≡ Ok c.in-Ok.kind = c.in-Ok.ensures.value.told in
+    let ms = members_view c.args.members.now.items in
+    let is : required (word_as kind_of_word) (codes "kind") (members_view c.args.members.now.items) ≡ Ok c.in-Ok.kind = c.in-Ok.ensures.value.told in
     record {
       value =
           subst (λ (k : Reading AstKind). Reads node_view (node_of_kind k ms (nodes_in (codes "nodes") ms) (nodes_in (codes "items") ms))
