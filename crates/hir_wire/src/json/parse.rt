@@ -1,8 +1,8 @@
 //! From a text to a JSON value.
 ghost use Rattle.std.specs.Prelude.{◌≡◌, ◌<◌, ◌∷◌, length, Some, None, Err, false, IfOk, OnOk};
 ghost use Rattle.json.specs.Token.{Token as SpecToken};
-ghost use Rattle.json.specs.Json.{value, items, members};
-ghost use Rattle.json.specs.Json as json;
+ghost use Rattle.json.specs.Json.{value, items, members, number as json_number};
+
 ghost use Rattle.serde_json.specs.Data.{no_members};
 ghost use Rattle.serde_json.specs.Read.{of_json, of_items, of_members, converted, number_of, read as read_text};
 ghost use Rattle.serde_json.specs.Written.{has_float, items_have_float, members_have_float};
@@ -116,10 +116,10 @@ fn read_value<'t>(
 }
 
 fn read_number<'t>(open: &mut Open<'t>, text: &str) -> Result<Value<'t>, ParseError>
-    ensures ok { IfOk result (λ v. of_json (json.number text.now) ≡ Some (view v)) }
+    ensures ok { IfOk result (λ v. of_json (json_number text.now) ≡ Some (view v)) }
     ensures keeps { OnOk result (Keeps open.old open.new) }
     ensures notes { IfOk result (λ v. Notes open.old open.new (has_float (view v))) }
-    ensures json { result ≡ Err ParseError.Json → of_json (json.number text.now) ≡ None }
+    ensures json { result ≡ Err ParseError.Json → of_json (json_number text.now) ≡ None }
 {
     let Some(number) = parse_number(text) else {
         return Err(ParseError::Json);

@@ -420,7 +420,7 @@ fn parse_line<'t>(
         (λ e. e ≢ ReadError.Memory → (e ≡ ReadError.Json) × (data_of line.now ≡ None)) }
     ensures float { IfOk result (λ r. r.1 ≡ false → has_float (view r.0) ≡ false) }
 {
-    let Ok(text) = std::str::from_utf8(line) else {
+    let Ok(text) = simdutf8::compat::from_utf8(line) else {
         return Err(ReadError::Json);
     };
     match parse(alloc, text, scratch) {
